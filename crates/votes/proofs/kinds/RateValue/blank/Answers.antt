@@ -1,0 +1,6 @@
+use mathlib.Core.Path.{refl}
+use Rattle.votes.proofs.Rates.{rate-from-amount}
+use Rattle.votes.proofs.kinds.RateValue.blank.Needs as need
+
+pub returns : need.returns
+returns c = rate-from-amount _ _ refl

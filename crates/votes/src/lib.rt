@@ -1,0 +1,5 @@
+// Votes, the kinds of value that they carry, and the frames that they travel in.
+pub mod fingerprint;
+pub mod kinds;
+pub mod rate;
+pub mod value;
