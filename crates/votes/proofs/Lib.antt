@@ -1,3 +1,4 @@
 pub mod BigEndian
 pub mod Fingerprints
 pub mod Rates
+pub mod Voids
