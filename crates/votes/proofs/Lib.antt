@@ -1,4 +1,5 @@
 pub mod BigEndian
 pub mod Fingerprints
+pub mod Framing
 pub mod Rates
 pub mod Voids

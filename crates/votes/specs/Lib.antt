@@ -1,3 +1,5 @@
 pub mod Bytes
+pub mod Frames
 pub mod Kinds
 pub mod Votes
+pub mod Worked
