@@ -14,7 +14,7 @@ use Rattle.std.proofs.shelf.Elements.{all-append, all-drop}
 use Rattle.std.proofs.shelf.Lists.{length-append, length-drop, take-append-drop, getD-drop}
 use Rattle.std.specs.Joined.{joined}
 use Rattle.votes.specs.Bytes.{Octets, big, field}
-use Rattle.votes.specs.Kinds.{fingerprint-bytes, fingerprint-parsed, words-in}
+use Rattle.votes.specs.Fingerprints.{fingerprint-bytes, fingerprint-parsed, words-in}
 use Rattle.votes.specs.declared.fingerprint.Fingerprint.{Fingerprint}
 use Rattle.votes.proofs.BigEndian.{number-big, big-field, field-lt, length-big, octets-big}
 

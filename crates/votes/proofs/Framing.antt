@@ -86,10 +86,10 @@ module _ {V : Type 0} (G : Ghosts V) (bs : List ℕ) where
 
   -- the kind of value read the rest, and the header is right
   pub parse-answers : (v : V) (w : Vote V)
-    → 13 ≤ length bs → field 2 0 bs ≡ 11 + G .width → field 1 2 bs ≡ 1
-    → Some v ≡ cond (eqb (length (take (length bs - 13) (drop 13 bs))) (G .width)) (Some (G .parsed (take (length bs - 13) (drop 13 bs)))) None
-    → (v ≡ G .parsed (drop 13 bs) → w ≡ fields G bs)
-    → Some w ≡ cond (readable G bs) (Some (fields G bs)) None
+      → 13 ≤ length bs → field 2 0 bs ≡ 11 + G .width → field 1 2 bs ≡ 1
+      → Some v ≡ cond (eqb (length (take (length bs - 13) (drop 13 bs))) (G .width)) (Some (G .parsed (take (length bs - 13) (drop 13 bs)))) None
+      → (v ≡ G .parsed (drop 13 bs) → w ≡ fields G bs)
+      → Some w ≡ cond (readable G bs) (Some (fields G bs)) None
   unfolding rest
   parse-answers v w header counted current e same =
       let read = some-cond _ _ v e in

@@ -13,7 +13,7 @@ use mir.Syntax.{w64}
 use mir.Val.{SFits, ofZ, toZ}
 use Rattle.std.proofs.shelf.Lists.{take-all}
 use Rattle.votes.specs.Bytes.{Octets, big, field}
-use Rattle.votes.specs.Kinds.{rate-bytes, rate-parsed}
+use Rattle.votes.specs.Rates.{rate-bytes, rate-parsed}
 use Rattle.votes.specs.declared.rate.Rate.{Rate}
 use Rattle.votes.proofs.BigEndian.{number-big, big-field, field-lt}
 

@@ -7,6 +7,7 @@ use Rattle.std.specs.declared.option.Option.{Option}
 use Rattle.std.specs.declared.option.Option.the-variants.{Some, None}
 use Rattle.votes.specs.Votes.{void, in-range, shaped, fits-shape, shape-of, kind-of}
 use Rattle.votes.specs.declared.kind.Kind.{Kind}
+use Rattle.votes.specs.declared.kind.Shape.{Shape}
 use Rattle.votes.specs.declared.value.Value.{Ghosts}
 use Rattle.votes.specs.declared.vote.Vote.{Vote}
 
@@ -18,9 +19,10 @@ module _ {V : Type 0} (G : Ghosts V) (n : ℕ) (v : Vote V) where
   pub void-unnamed : None ≡ kind-of (v .kind) → true ≡ void G n v
   void-unnamed named = ap not (sym (and-right (in-range n v) false refl)) ∙ void-by None named
 
-  pub void-in-range : (k : Kind) → Some k ≡ kind-of (v .kind) → (t r : Bool) → t ≡ in-range n v → t ≡ true → r ≡ fits-shape G (shape-of k) v → not r ≡ void G n v
-  void-in-range k named t r ranged e fits =
-      ap not (fits ∙ ap (λ b. b && fits-shape G (shape-of k) v) (sym e ∙ ranged)) ∙ void-by (Some k) named
+  pub void-in-range : (k : Kind) → Some k ≡ kind-of (v .kind) → (s : Shape) → s ≡ shape-of k → (t r : Bool) → t ≡ in-range n v → t ≡ true → r ≡ fits-shape G s v → not r ≡ void G n v
+  void-in-range k named s shape t r ranged e fits =
+      let passed : r ≡ fits-shape G (shape-of k) v = fits ∙ ap (λ s. fits-shape G s v) shape in
+      ap not (passed ∙ ap (λ b. b && fits-shape G (shape-of k) v) (sym e ∙ ranged)) ∙ void-by (Some k) named
 
   pub void-out-of-range : (k : Kind) → Some k ≡ kind-of (v .kind) → (t : Bool) → t ≡ in-range n v → t ≡ false → not t ≡ void G n v
   void-out-of-range k named t ranged e =

@@ -10,6 +10,9 @@ use Rattle.votes.specs.Votes.{empty-vote}
 use Rattle.votes.specs.declared.value.Value.{Ghosts}
 use Rattle.votes.specs.declared.vote.Vote.{Vote}
 
+abbrev pub version-right : List ℕ → Bool
+version-right bs = eqb (field 1 2 bs) 1
+
 module _ {V : Type 0} (G : Ghosts V) where
   -- length, which counts the bytes after it; version; kind; page; round; house; cp; val
   abbrev pub header : Vote V → List ℕ
@@ -30,9 +33,12 @@ module _ {V : Type 0} (G : Ghosts V) where
   abbrev pub frame-size : ℕ
   frame-size = 13 + G .width
 
+  abbrev pub length-right : List ℕ → Bool
+  length-right bs = eqb (field 2 0 bs) (11 + G .width)
+
   -- as many bytes as a frame has, with the right length and the right version
   unfoldable pub readable : List ℕ → Bool
-  readable bs = eqb (length bs) frame-size && (eqb (field 2 0 bs) (11 + G .width) && eqb (field 1 2 bs) 1)
+  readable bs = eqb (length bs) frame-size && (length-right bs && version-right bs)
 
   -- the fields of a frame, by their sizes and places
   unfoldable pub fields : List ℕ → Vote V

@@ -1,5 +1,7 @@
+-- What a reader has to believe of votes, shortest first.
 pub mod Bytes
-pub mod Frames
-pub mod Kinds
+pub mod Rates
+pub mod Fingerprints
 pub mod Votes
+pub mod Frames
 pub mod Worked

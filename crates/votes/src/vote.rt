@@ -6,7 +6,9 @@ use crate::kind::Shape;
 use crate::value::Value;
 
 pub const MAX_PAGE: u32 = 65_535;
+
 pub const MAX_ROUND: u16 = 63;
+
 pub const MAX_CP: u8 = 15;
 
 // The numbers have the widths of a frame's fields, so a vote may also be one that no circle takes.

@@ -3,8 +3,8 @@ ghost use mathlib.Core.Path.{_≡_};
 ghost use Rattle.votes.specs.Worked.{worked-bytes, Worked-frame};
 use crate::frame::write_frame;
 use crate::kind::Kind;
-use crate::kinds::RateValue;
 use crate::rate::Rate;
+use crate::rate_value::RateValue;
 use crate::vote::Vote;
 
 // PRECOMMIT, page 7, round 0, house 2, rate 12,500, as a frame.

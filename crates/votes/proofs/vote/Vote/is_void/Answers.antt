@@ -1,6 +1,5 @@
 use mathlib.Core.Bool.{not}
-use mathlib.Core.Path.{_≡_, ap, _∙_}
-use Rattle.votes.specs.Votes.{void, fits-shape}
+use mathlib.Core.Path.{ap, _∙_}
 use Rattle.votes.proofs.Voids.{void-unnamed, void-in-range, void-out-of-range}
 use Rattle.votes.proofs.vote.Vote.is_void.Needs as need
 use Rattle.votes.proofs.vote.Vote.is_void.Needs.{then-in-range, else-in-range}
@@ -10,12 +9,12 @@ returns-after-in-range g c =
     let G = g .V·Value in
     let v = c .args .self .now in
     let n = c .args .houses in
+    let named = c .in-Some .ensures tt in
     elim (c .if-in-range .came) [
-      then-in-range w ↦
-        let fits = ap (λ s. fits-shape G s v) (w .shape .ensures) in
-        ap not (w .result-is) ∙ void-in-range G n v _ (c .in-Some .ensures tt) _ _ (c .in-range .ensures) (w .if-in-range .taken) (w .fits-then-in-range .ensures ∙ fits)
-    | else-in-range w ↦
-        ap not (w .result-is) ∙ void-out-of-range G n v _ (c .in-Some .ensures tt) _ (c .in-range .ensures) (w .if-in-range .left)
+      | then-in-range w ↦
+          ap not (w .result-is) ∙ void-in-range G n v _ named _ (w .shape .ensures) _ _ (c .in-range .ensures) (w .if-in-range .taken) (w .fits-then-in-range .ensures)
+      | else-in-range w ↦
+          ap not (w .result-is) ∙ void-out-of-range G n v _ named _ (c .in-range .ensures) (w .if-in-range .left)
     ]
 
 pub returns-in-None : need.returns-in-None

@@ -1,6 +1,6 @@
 use mathlib.Core.Path.{refl}
 use Rattle.votes.proofs.Fingerprints.{fingerprint-from-words}
-use Rattle.votes.proofs.kinds.FingerprintValue.blank.Needs as need
+use Rattle.votes.proofs.fingerprint_value.FingerprintValue.blank.Needs as need
 
 pub returns : need.returns
 returns c = fingerprint-from-words _ _ refl

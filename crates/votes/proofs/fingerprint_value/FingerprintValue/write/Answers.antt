@@ -8,7 +8,7 @@ use Rattle.std.proofs.shelf.Lists.{take-all, take-more, joined-more}
 use Rattle.std.proofs.shelf.Parts.{take-putMid}
 use Rattle.std.specs.Joined.{joined}
 use Rattle.votes.specs.Bytes.{big}
-use Rattle.votes.proofs.kinds.FingerprintValue.write.Needs as need
+use Rattle.votes.proofs.fingerprint_value.FingerprintValue.write.Needs as need
 
 pub loop-k-again : need.loop-k-again
 loop-k-again c =

@@ -1,47 +1,11 @@
-// The two kinds of value that are delivered, a rate and a fingerprint, and that they keep the laws of a kind.
+// Fingerprints as a kind of value: 32 bytes, and all zero for blank.
 ghost use mathlib.Core.Path.{_≡_};
 ghost use Prim.Native.Nat.{_+_, _≤_};
 ghost use lib.ListN.{length};
 ghost use Rattle.votes.specs.Bytes.{field};
-ghost use Rattle.votes.specs.Kinds.{rate-bytes, rate-parsed, rate-blank};
-ghost use Rattle.votes.specs.Kinds.{fingerprint-bytes, fingerprint-parsed, fingerprint-blank};
+ghost use Rattle.votes.specs.Fingerprints.{fingerprint-bytes, fingerprint-parsed, fingerprint-blank};
 use crate::fingerprint::Fingerprint;
-use crate::rate::Rate;
 use crate::value::Value;
-
-pub impl Value for Rate as RateValue {
-    ghost width = { 8 };
-
-    ghost bytes = { rate-bytes };
-
-    ghost parsed = { rate-parsed };
-
-    ghost blank = { rate-blank };
-
-    fn width() -> usize {
-        8
-    }
-
-    fn write(&self, out: &mut [u8]) {
-        out.copy_from_slice(&self.amount.to_be_bytes());
-    }
-
-    fn read(from: &[u8]) -> Option<Rate> {
-        let [a, b, c, d, e, f, g, h] = from else {
-            return None;
-        };
-        let amount = i64::from_be_bytes([*a, *b, *c, *d, *e, *f, *g, *h]);
-        Some(Rate { amount })
-    }
-
-    fn same(&self, other: &Rate) -> bool {
-        self.amount == other.amount
-    }
-
-    fn blank() -> Rate {
-        Rate { amount: i64::MIN }
-    }
-}
 
 // The big-endian number in the eight bytes from a place on.
 fn word_at(from: &[u8], at: usize) -> u64

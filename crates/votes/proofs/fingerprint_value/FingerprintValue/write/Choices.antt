@@ -3,7 +3,7 @@ use Prim.Native.Nat.{_*_}
 use lib.ListN.{take}
 use Rattle.std.specs.Joined.{joined}
 use Rattle.votes.specs.Bytes.{big}
-use Rattle.votes.proofs.kinds.FingerprintValue.write.Given as given
+use Rattle.votes.proofs.fingerprint_value.FingerprintValue.write.Given as given
 
 -- the first k numbers stand in the first 8 * k bytes
 abbrev pub Inv-loop-k : given.InvT-loop-k

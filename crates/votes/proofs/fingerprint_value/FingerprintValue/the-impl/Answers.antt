@@ -2,7 +2,7 @@
 use mathlib.Core.Path.{ap, _∙_}
 use Prim.Native.Nat.{_*_}
 use Rattle.votes.proofs.Fingerprints.{length-words, octets-words, fingerprint-reading, fingerprint-writing}
-use Rattle.votes.proofs.kinds.FingerprintValue.the-impl.Needs as need
+use Rattle.votes.proofs.fingerprint_value.FingerprintValue.the-impl.Needs as need
 
 pub long-law : need.long-law
 long-law f = length-words (f .words) ∙ ap (λ n. 8 * n) (f .four)

@@ -4,7 +4,7 @@ use Rattle.std.proofs.shelf.Ways.{same-from-decides, decides-like}
 use Rattle.std.specs.Joined.{joined}
 use Rattle.votes.specs.Bytes.{big}
 use Rattle.votes.proofs.Fingerprints.{words-from-bytes}
-use Rattle.votes.proofs.kinds.FingerprintValue.same.Needs as need
+use Rattle.votes.proofs.fingerprint_value.FingerprintValue.same.Needs as need
 
 pub returns : need.returns
 returns c =
