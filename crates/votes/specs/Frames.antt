@@ -10,15 +10,26 @@ use Rattle.votes.specs.Votes.{empty-vote}
 use Rattle.votes.specs.declared.value.Value.{Ghosts}
 use Rattle.votes.specs.declared.vote.Vote.{Vote}
 
+abbrev pub version : ℕ
+version = 1
+
 abbrev pub version-right : List ℕ → Bool
-version-right bs = eqb (field 1 2 bs) 1
+version-right bs = eqb (field 1 2 bs) version
 
 module _ {V : Type 0} (G : Ghosts V) where
-  -- length, which counts the bytes after it; version; kind; page; round; house; cp; val
+  -- how many bytes a frame has
+  abbrev pub frame-size : ℕ
+  frame-size = 13 + G .width
+
+  -- what a frame's length says: how many bytes come after it
+  abbrev pub frame-length : ℕ
+  frame-length = 11 + G .width
+
+  -- length, version, kind, page, round, house, cp, val
   abbrev pub header : Vote V → List ℕ
   header v =
-      big 2 (11 + G .width)
-      ++ big 1 1
+      big 2 frame-length
+      ++ big 1 version
       ++ big 1 (v .kind)
       ++ big 4 (v .page)
       ++ big 2 (v .round)
@@ -29,12 +40,8 @@ module _ {V : Type 0} (G : Ghosts V) where
   unfoldable pub frame : Vote V → List ℕ
   frame v = header v ++ G .bytes (v .value)
 
-  -- how many bytes a frame has
-  abbrev pub frame-size : ℕ
-  frame-size = 13 + G .width
-
   abbrev pub length-right : List ℕ → Bool
-  length-right bs = eqb (field 2 0 bs) (11 + G .width)
+  length-right bs = eqb (field 2 0 bs) frame-length
 
   -- as many bytes as a frame has, with the right length and the right version
   unfoldable pub readable : List ℕ → Bool

@@ -6,7 +6,7 @@ ghost use lib.Dec.{eqb};
 ghost use lib.ListN.{length};
 ghost use Rattle.std.specs.Results.{isOk};
 ghost use Rattle.std.specs.declared.option.Option.the-variants.{Some, None};
-ghost use Rattle.votes.specs.Frames.{frame, frame-size, header as header-of, readable, fields, stands-for, Reads-back, Writes-back, Unreadable-is-empty};
+ghost use Rattle.votes.specs.Frames.{frame, frame-size, frame-length, header as header-of, readable, fields, stands-for, Reads-back, Writes-back, Unreadable-is-empty};
 ghost use Rattle.votes.specs.Votes.{empty-vote};
 use crate::value::Value;
 use crate::vote::Vote;
@@ -22,6 +22,13 @@ pub fn frame_size<V: Value>() -> usize
     ensures { λ r. ⌜ r ≡ frame-size V·Value ⌝ }
 {
     HEADER + V::width()
+}
+
+// What a frame's length says: how many bytes come after it.
+fn frame_length<V: Value>() -> u16
+    ensures { λ r. ⌜ r ≡ frame-length V·Value ⌝ }
+{
+    (HEADER - 2 + V::width()) as u16
 }
 
 // A buffer that has more or fewer bytes than a frame.
@@ -51,7 +58,7 @@ fn parse<V: Value>(bytes: &[u8]) -> Option<Vote<V>>
     else {
         return None;
     };
-    if u16::from_be_bytes([*l1, *l0]) as usize != HEADER - 2 + V::width() {
+    if u16::from_be_bytes([*l1, *l0]) != frame_length::<V>() {
         return None;
     }
     if *version != VERSION {
@@ -73,7 +80,7 @@ fn parse<V: Value>(bytes: &[u8]) -> Option<Vote<V>>
 fn header<V: Value>(vote: Vote<V>) -> [u8; HEADER]
     ensures { λ r. ⌜ r ≡ header-of V·Value vote ⌝ }
 {
-    let [l1, l0] = ((HEADER - 2 + V::width()) as u16).to_be_bytes();
+    let [l1, l0] = frame_length::<V>().to_be_bytes();
     let [p3, p2, p1, p0] = vote.page.to_be_bytes();
     let [r1, r0] = vote.round.to_be_bytes();
     [

@@ -13,4 +13,4 @@ returns g c =
     let house : Fits w8 (v .house) = search needs in
     let cp : Fits w8 (v .cp) = search needs in
     let val : Fits w8 (v .val) = search needs in
-    simp (c .to-be-bytes .ensures, c .to-be-bytes-2 .ensures, c .to-be-bytes-3 .ensures, c .width .ensures, div-one, mod-eq-of-lt (kind .fits), mod-eq-of-lt (house .fits), mod-eq-of-lt (cp .fits), mod-eq-of-lt (val .fits))
+    simp (c .to-be-bytes .ensures, c .to-be-bytes-2 .ensures, c .to-be-bytes-3 .ensures, c .frame-length .ensures, div-one, mod-eq-of-lt (kind .fits), mod-eq-of-lt (house .fits), mod-eq-of-lt (cp .fits), mod-eq-of-lt (val .fits))
