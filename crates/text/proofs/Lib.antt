@@ -1,0 +1,4 @@
+pub mod Hexes
+pub mod Plus
+pub mod Texts
+pub mod Values

@@ -1,0 +1,11 @@
+use mathlib.Core.Path.{_≡_}
+use Prim.Native.Nat.{_*_}
+use lib.ListN.{drop}
+use Rattle.std.specs.Of.Vec.{vec-items}
+use Rattle.text.specs.Hex.{hex-bytes}
+use Rattle.text.proofs.Hexes.{after}
+use Rattle.text.proofs.hex.read_hex.Given as given
+
+-- the bytes so far, and those that the rest of the word writes, are those of the word
+abbrev pub Inv-loop-k : given.InvT-loop-k
+Inv-loop-k l = after (vec-items (l .bytes)) (hex-bytes (drop (2 * l .k) (l .text))) ≡ hex-bytes (l .text)

@@ -1,0 +1,5 @@
+-- What a reader has to believe of text, shortest first.
+pub mod Hex
+pub mod Rates
+pub mod Fingerprints
+pub mod Values
