@@ -45,6 +45,12 @@ no-letter : (c : ℕ) → (c ≡ 45) ⊎ In 48 57 c → c ≡ 98 → ⊥
 no-letter c (inl e) f = omega arith
 no-letter c (inr i) f = omega arith
 
+pub rate-single : (word : List ℕ) (o p : Option Rate) → Rate-reads word o → Rate-reads word p → o ≡ p
+rate-single word None None h k = refl
+rate-single word None (Some s) h k = absurd (h (k .0))
+rate-single word (Some r) None h k = absurd (k (h .0))
+rate-single word (Some r) (Some s) h k = ap Some (rate-from-amount r s (h .1 ∙ sym (k .1)))
+
 pub rate-back : (r : Rate) (o : Option Rate) → Rate-reads (rate-text r) o → o ≡ Some r
 rate-back r None refused =
     let plain = no-plus (getD (signed (r .amount)) 0 0) (first (r .amount) (r .fits)) in
@@ -62,6 +68,9 @@ rate-apart r e = no-letter (getD (signed (r .amount)) 0 0) (first (r .amount) (r
 
 length-fingerprint : (f : Fingerprint) → length (fingerprint-bytes f) ≡ 32
 length-fingerprint f = length-words (f .words) ∙ ap (λ n. 8 * n) (f .four)
+
+pub fingerprint-single : (word : List ℕ) (o p : Option Fingerprint) → Fingerprint-reads word o → Fingerprint-reads word p → o ≡ p
+fingerprint-single word o p h k = h ∙ sym k
 
 pub fingerprint-back : (f : Fingerprint) (o : Option Fingerprint) → Fingerprint-reads (fingerprint-text f) o → o ≡ Some f
 fingerprint-back f o read =

@@ -34,6 +34,14 @@ module _ {V : Type 0} (G : Ghosts V) (T : Texts V) where
   reads-other word o other read =
       subst (λ b. When b (o ≡ Some (G .blank)) (T .reads word o)) (sym (apart-false word (codes "blank") other)) read
 
+  pub reads-single : ((word : List ℕ) (o p : Option V) → T .reads word o → T .reads word p → o ≡ p) → (word : List ℕ) (o p : Option V) → Value-reads G T word o → Value-reads G T word p → o ≡ p
+  unfolding Value-reads
+  reads-single single word o p = go (sameBytes word (codes "blank"))
+    where
+      go : (b : Bool) → When b (o ≡ Some (G .blank)) (T .reads word o) → When b (p ≡ Some (G .blank)) (T .reads word p) → o ≡ p
+      go true h k = h ∙ sym k
+      go false h k = single word o p h k
+
   -- the text of a blank value, and of any other
   module _ (v : V) where
     pub text-blank : (t : List ℕ) → t ≡ codes "blank" → is-blank G v ≡ true → t ≡ value-text G T v

@@ -5,3 +5,4 @@ pub mod number;
 pub mod rate_text;
 pub mod text_value;
 pub mod value_text;
+pub mod vote_text;

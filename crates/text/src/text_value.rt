@@ -18,6 +18,9 @@ pub trait TextValue: Value {
     // What a word other than `blank` is read as.
     ghost reads: { List ℕ → Maybe Self → Type 0 };
 
+    // A word is read in one way.
+    law single: { (word : List ℕ) (o p : Maybe Self) → reads word o → reads word p → o ≡ p };
+
     // The text of a value reads back as that value.
     law back: { (v : Self) (o : Maybe Self) → reads (text v) o → o ≡ Some v };
 
