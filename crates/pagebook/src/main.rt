@@ -1,18 +1,24 @@
 // pagebook: reads a scenario line by line on standard input, and prints what each line answers.
+mod answers;
 mod fault;
-mod hex;
 mod session;
-mod value_text;
-mod words;
 
 use fault::Fault;
+use fault::FaultDebug;
+use fault::FaultFromStream;
 use session::Session;
-use std::io::BufReader;
-use crate::fault::FaultDebug;
-use crate::fault::FaultFromStream;
 use std::io::BufRead;
+use std::io::BufReader;
 
-// Goes through the input, a line at a time, and answers the number of the line that is malformed, if one is.
+// A line without the line feed that ends it.
+fn text_of(line: &[u8]) -> &[u8] {
+    match line {
+        [text @ .., b'\n'] => text,
+        _ => line,
+    }
+}
+
+// Goes through the input, a line at a time, up to the first malformed line, and answers that line's number.
 fn run(rt: &LibcRuntime) -> Result<Option<u64>, Fault> {
     let mut input = BufReader::new(rt.stdin());
     let mut session = Session::new();
@@ -20,7 +26,7 @@ fn run(rt: &LibcRuntime) -> Result<Option<u64>, Fault> {
     for number in 1..u64::MAX {
         line.clear();
         if input.read_until(b'\n', &mut line)? == 0 {
-            return Ok(None);
+            break;
         }
         match session.respond(rt.alloc(), text_of(line.as_slice())) {
             Ok(Some(answer)) => rt.println(answer)?,
@@ -30,14 +36,6 @@ fn run(rt: &LibcRuntime) -> Result<Option<u64>, Fault> {
         }
     }
     Ok(None)
-}
-
-// A line without the line feed that ends it.
-fn text_of(line: &[u8]) -> &[u8] {
-    match line {
-        [text @ .., b'\n'] => text,
-        _ => line,
-    }
 }
 
 fn main(rt: LibcRuntime) -> Result<(), Fault> {

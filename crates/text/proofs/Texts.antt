@@ -20,10 +20,10 @@ use Rattle.std.specs.declared.option.Option.{Option}
 use Rattle.std.specs.declared.option.Option.the-variants.{Some, None}
 use Rattle.std.specs.declared.result.Result.{Result}
 use Rattle.std.specs.declared.result.Result.the-variants.{Ok, Err}
-use Rattle.text.specs.Hex.{hex-text, hex-bytes}
+use Rattle.words.specs.Hex.{hex-text, hex-bytes}
 use Rattle.text.specs.Fingerprints.{Fingerprint-reads, fingerprint-text, fingerprint-of}
 use Rattle.text.specs.Rates.{Rate-reads, rate-text}
-use Rattle.text.proofs.Hexes.{hex-reads-back, length-hex-text}
+use Rattle.words.proofs.Hexes.{hex-reads-back, length-hex-text}
 use Rattle.votes.specs.Fingerprints.{fingerprint-bytes}
 use Rattle.votes.specs.declared.fingerprint.Fingerprint.{Fingerprint}
 use Rattle.votes.specs.declared.rate.Rate.{Rate}
@@ -55,11 +55,11 @@ pub rate-back : (r : Rate) (o : Option Rate) → Rate-reads (rate-text r) o → 
 rate-back r None refused =
     let plain = no-plus (getD (signed (r .amount)) 0 0) (first (r .amount) (r .fits)) in
     let read : _≡_ {A = Result ℤ ℕ} (Err 0) (Ok (r .amount)) =
-        parses-back-signed w64 (r .amount) (signed (r .amount)) (Err 0) (record { sfits = r .fits }) (r .fits) refl (λ p. refused (plain, p .0, p .1)) in
+    parses-back-signed w64 (r .amount) (signed (r .amount)) (Err 0) (record { sfits = r .fits }) (r .fits) refl (λ p. refused (plain, p .0, p .1)) in
     let z : _≡_ {A = ℕ} 0 1 = cc in absurd (omega arith)
 rate-back r (Some s) (word, same) =
     let read : _≡_ {A = Result ℤ ℕ} (Ok (s .amount)) (Ok (r .amount)) =
-        parses-back-signed w64 (r .amount) (signed (r .amount)) (Ok (s .amount)) (record { sfits = r .fits }) (r .fits) refl ((word .1, word .2), same) in
+    parses-back-signed w64 (r .amount) (signed (r .amount)) (Ok (s .amount)) (record { sfits = r .fits }) (r .fits) refl ((word .1, word .2), same) in
     let amounts : s .amount ≡ r .amount = cc in
     ap Some (rate-from-amount s r amounts)
 

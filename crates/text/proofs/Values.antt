@@ -63,5 +63,5 @@ module _ {V : Type 0} (G : Ghosts V) (T : Texts V) where
     unfolding Value-reads
     back-other back apart t shown o read =
         let word : When (sameBytes (T .text v) (codes "blank")) (o ≡ Some (G .blank)) (T .reads (T .text v) o) =
-            subst (λ w. When (sameBytes w (codes "blank")) (o ≡ Some (G .blank)) (T .reads w o)) shown read in
+        subst (λ w. When (sameBytes w (codes "blank")) (o ≡ Some (G .blank)) (T .reads w o)) shown read in
         back o (when-false _ _ (apart-false (T .text v) (codes "blank") apart) word)

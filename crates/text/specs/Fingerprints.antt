@@ -7,7 +7,7 @@ use lib.Dec.{eqb}
 use lib.ListN.{length}
 use Rattle.std.specs.declared.option.Option.{Option}
 use Rattle.std.specs.declared.option.Option.the-variants.{Some, None}
-use Rattle.text.specs.Hex.{hex-text, hex-bytes}
+use Rattle.words.specs.Hex.{hex-text, hex-bytes}
 use Rattle.votes.specs.Fingerprints.{fingerprint-bytes, fingerprint-parsed}
 use Rattle.votes.specs.declared.fingerprint.Fingerprint.{Fingerprint}
 

@@ -1,5 +1,4 @@
 -- What a reader has to believe of text, shortest first.
-pub mod Hex
 pub mod Rates
 pub mod Fingerprints
 pub mod Values

@@ -1,12 +1,12 @@
 // The text of a fingerprint: its bytes as 64 hexadecimal digits.
 ghost use Rattle.text.specs.Fingerprints.{Fingerprint-reads, fingerprint-text};
-use crate::hex::read_hex;
-use crate::hex::show_hex;
 use crate::text_value::TextValue;
 use std::alloc::AllocError;
 use std::alloc::Global;
 use votes::fingerprint::Fingerprint;
 use votes::fingerprint_value::FingerprintValue;
+use words::hex::read_hex;
+use words::hex::show_hex;
 
 pub impl TextValue for Fingerprint as FingerprintText {
     ghost text = { fingerprint-text };

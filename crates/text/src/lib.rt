@@ -1,7 +1,5 @@
-// Numbers, bytes, values and votes as the words of a text line, read and shown.
+// Values and votes as the words of a text line, read and shown.
 pub mod fingerprint_text;
-pub mod hex;
-pub mod number;
 pub mod rate_text;
 pub mod text_value;
 pub mod value_text;

@@ -4,13 +4,13 @@ ghost use mathlib.Core.List.{map};
 ghost use Rattle.std.specs.Of.String.{string-bytes};
 ghost use Rattle.std.specs.Vec.{made};
 ghost use Rattle.text.specs.VoteWords.{vote-text, Vote-reads};
-use crate::number::number;
 use crate::text_value::TextValue;
 use crate::value_text::read_value;
 use crate::value_text::show_value;
 use std::alloc::AllocError;
 use std::alloc::Global;
 use votes::vote::Vote;
+use words::number::number;
 
 pub fn show_vote<V: TextValue>(heap: Global, vote: Vote<V>) -> Result<String, AllocError>
     ensures { λ r. ⌜ made r (λ s. string-bytes s ≡ vote-text V·Value V·TextValue vote) ⌝ }

@@ -32,7 +32,7 @@ fn frame_length<V: Value>() -> u16
 }
 
 // A buffer that has more or fewer bytes than a frame.
-#[derive(Clone, Copy, Debug, PartialEq, Eq)]
+#[derive(Clone, Copy)]
 pub struct WrongSize;
 
 // The vote in a frame, if the frame is readable.

@@ -3,7 +3,7 @@ ghost use mathlib.Core.Path.{_≡_};
 ghost use Rattle.votes.specs.Votes.{code-of, kind-of, ballot, shape-of};
 use crate::vote::MAX_CP;
 
-#[derive(Clone, Copy, Debug, PartialEq, Eq)]
+#[derive(Clone, Copy)]
 pub enum Kind {
     Proposal,
     Precommit,
@@ -74,7 +74,7 @@ impl Kind {
         }
     }
 
-    pub fn shape(self) -> Shape
+    pub(crate) fn shape(self) -> Shape
         ensures { λ r. ⌜ r ≡ shape-of self ⌝ }
     {
         match self {

@@ -2,7 +2,7 @@ use mathlib.Core.Path.{subst, sym, _∙_}
 use mir.Facts.{toZ-ofZ}
 use mir.Syntax.{w64}
 use mir.Val.{SFits}
-use Rattle.text.proofs.Plus.{no-plus-first}
+use Rattle.words.proofs.Plus.{no-plus-first}
 use Rattle.text.proofs.rate_text.RateText.from_word.Needs as need
 
 pub returns-in-Ok : need.returns-in-Ok

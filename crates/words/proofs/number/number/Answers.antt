@@ -3,8 +3,8 @@ use mathlib.Core.Path.{_≡_, subst}
 use Prim.Native.Nat.{ℕ, _≤_}
 use native.Mathlib.Omega.{arith}
 use Rattle.std.specs.Reads.{afterPlus, Numeral, value}
-use Rattle.text.proofs.Plus.{after-no-plus}
-use Rattle.text.proofs.number.number.Needs as need
+use Rattle.words.proofs.Plus.{after-no-plus}
+use Rattle.words.proofs.number.number.Needs as need
 
 pub returns-in-Ok : need.returns-in-Ok
 returns-in-Ok c =

@@ -6,9 +6,9 @@ use lib.ListN.{length}
 use Rattle.std.proofs.shelf.Lists.{drop-all, append-nil}
 use Rattle.std.specs.Of.Vec.{vec-items}
 use Rattle.std.specs.declared.option.Option.the-variants.{Some}
-use Rattle.text.specs.Hex.{hex-bytes}
-use Rattle.text.proofs.Hexes.{after, hex-odd, pair-read, pair-refused}
-use Rattle.text.proofs.hex.read_hex.Needs as need
+use Rattle.words.specs.Hex.{hex-bytes}
+use Rattle.words.proofs.Hexes.{after, hex-odd, pair-read, pair-refused}
+use Rattle.words.proofs.hex.read_hex.Needs as need
 
 pub returns-then-text-ne0 : need.returns-then-text-ne0
 returns-then-text-ne0 c = sym (hex-odd (c .as-bytes-text .result .now) (c .if-text-ne0 .taken)) ∙ ap hex-bytes (c .as-bytes-text .ensures .value)

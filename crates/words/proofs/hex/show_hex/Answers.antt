@@ -5,10 +5,10 @@ use lib.ListN.{length, getD}
 use mathlib.Core.List.{[], _∷_}
 use Rattle.std.proofs.shelf.Lists.{take-all}
 use Rattle.std.specs.Of.String.{string-bytes}
-use Rattle.text.specs.Hex.{hex-text, hex-bytes}
-use Rattle.text.proofs.Hexes.{char-ascii, hex-reads-back, hex-text-more}
+use Rattle.words.specs.Hex.{hex-text, hex-bytes}
+use Rattle.words.proofs.Hexes.{char-ascii, hex-reads-back, hex-text-more}
 use Rattle.votes.proofs.BigEndian.{octets-from-fits}
-use Rattle.text.proofs.hex.show_hex.Needs as need
+use Rattle.words.proofs.hex.show_hex.Needs as need
 
 pub loop-b-again : need.loop-b-again
 loop-b-again c =

@@ -8,7 +8,7 @@ ghost use Rattle.std.specs.Options.{mapped};
 ghost use Rattle.std.specs.Text.{digitValue, digitChar};
 ghost use Rattle.std.specs.Vec.{made};
 ghost use Rattle.std.specs.declared.option.Option.the-variants.{Some};
-ghost use Rattle.text.specs.Hex.{hex-text, hex-bytes};
+ghost use Rattle.words.specs.Hex.{hex-text, hex-bytes};
 use std::alloc::AllocError;
 use std::alloc::Global;
 

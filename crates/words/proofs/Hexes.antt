@@ -14,7 +14,7 @@ use Rattle.std.specs.Options.{mapped}
 use Rattle.std.specs.Text.{digitValue, digitChar}
 use Rattle.std.specs.declared.option.Option.{Option}
 use Rattle.std.specs.declared.option.Option.the-variants.{Some, None}
-use Rattle.text.specs.Hex.{hex-text, hex-bytes}
+use Rattle.words.specs.Hex.{hex-text, hex-bytes}
 use Rattle.votes.specs.Bytes.{Octets}
 
 -- two characters at the front, digits or not
