@@ -1,9 +1,9 @@
 // Why the program stops early.
 use std::alloc::AllocError;
-use std::alloc::Refused;
+use std::fmt;
 use std::io;
 
-#[derive(Debug, Drop)]
+#[derive(Drop)]
 pub(crate) enum Fault {
     // The line is not in the grammar, or not allowed where it stands.
     Malformed,
@@ -19,14 +19,18 @@ pub(crate) impl From<AllocError> for Fault as FaultFromAlloc {
     }
 }
 
-pub(crate) impl<T: Drop> From<Refused<T>> for Fault as FaultFromRefused {
-    fn from(_e: Refused<T>) -> Fault {
-        Fault::Memory
-    }
-}
-
 pub(crate) impl From<io::Error> for Fault as FaultFromStream {
     fn from(e: io::Error) -> Fault {
         Fault::Stream(e)
+    }
+}
+
+pub(crate) impl fmt::Display for Fault as FaultDisplay {
+    fn fmt<W: fmt::Write>(&self, f: &mut fmt::Formatter<W>) -> fmt::Result {
+        match self {
+            Fault::Malformed => write!(f, "malformed input"),
+            Fault::Memory => write!(f, "no memory is left"),
+            Fault::Stream(e) => write!(f, "standard input or output failed: {e}"),
+        }
     }
 }

@@ -2,9 +2,11 @@
 mod answers;
 mod fault;
 mod session;
+#[cfg(test)]
+mod tests;
 
 use fault::Fault;
-use fault::FaultDebug;
+use fault::FaultDisplay;
 use fault::FaultFromStream;
 use session::Session;
 use std::io::BufRead;
@@ -45,6 +47,9 @@ fn main(rt: LibcRuntime) -> Result<(), Fault> {
             println!(rt, "error: line {number}: malformed")?;
             Err(Fault::Malformed)
         }
-        Err(fault) => rt.report(Err(fault)),
+        Err(fault) => {
+            let _ = eprintln!(rt, "pagebook: {fault}");
+            Err(fault)
+        }
     }
 }
