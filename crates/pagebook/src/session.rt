@@ -1,6 +1,6 @@
 // A session: what the lines so far have settled, and the answer to the next one.
 ghost use mathlib.Core.Path.{_≡_};
-ghost use Rattle.std.specs.Vec.{refused};
+ghost use Rattle.pagebook.specs.Stages.{stage-named, Responds};
 use super::answers::frame_text;
 use super::answers::read_text;
 use super::fault::Fault;
@@ -16,7 +16,7 @@ use votes::rate::Rate;
 use words::hex::read_hex;
 
 #[derive(Clone, Copy)]
-enum Stage {
+pub(crate) enum Stage {
     // The kind of value is yet to be named.
     Start,
     Rates,
@@ -25,7 +25,7 @@ enum Stage {
 
 #[derive(Drop)]
 pub(crate) struct Session {
-    stage: Stage,
+    pub(crate) stage: Stage,
 }
 
 // A line of spaces alone, or a comment.
@@ -36,6 +36,17 @@ fn is_ignored(line: &[u8]) -> bool {
         }
     }
     true
+}
+
+// The stage that a line names, if it names a kind of value.
+fn settle(line: &str) -> Option<Stage>
+    ensures { λ r. ⌜ r ≡ stage-named (now (line .entry)) ⌝ }
+{
+    match line {
+        "values rate" => Some(Stage::Rates),
+        "values fingerprint" => Some(Stage::Fingerprints),
+        _ => None,
+    }
 }
 
 // The answer to a line once the kind of value is named.
@@ -61,20 +72,10 @@ impl Session {
         }
     }
 
-    // The first line names the kind of value.
-    fn settle(&mut self, heap: Global, line: &str) -> Result<String, Fault> {
-        let stage = match line {
-            "values rate" => Stage::Rates,
-            "values fingerprint" => Stage::Fingerprints,
-            _ => return Err(Fault::Malformed),
-        };
-        let answer = String::from_str(heap, "0")?;
-        self.stage = stage;
-        Ok(answer)
-    }
-
     // What a line prints, if it prints anything.
-    pub(crate) fn respond(&mut self, heap: Global, line: &[u8]) -> Result<Option<String>, Fault> {
+    pub(crate) fn respond(&mut self, heap: Global, line: &[u8]) -> Result<Option<String>, Fault>
+        ensures { λ r. ⌜ Responds (now (self .entry) .stage) (now (line .entry)) r (now (self .exit) .stage) ⌝ }
+    {
         if is_ignored(line) {
             return Ok(None);
         }
@@ -82,9 +83,16 @@ impl Session {
             return Err(Fault::Malformed);
         };
         let answer = match self.stage {
-            Stage::Start => self.settle(heap, line)?,
             Stage::Rates => answer::<Rate>(heap, line)?,
             Stage::Fingerprints => answer::<Fingerprint>(heap, line)?,
+            Stage::Start => {
+                let Some(stage) = settle(line) else {
+                    return Err(Fault::Malformed);
+                };
+                let text = format!(heap, "{line} -> 0")?;
+                self.stage = stage;
+                return Ok(Some(text));
+            }
         };
         Ok(Some(format!(heap, "{line} -> {answer}")?))
     }

@@ -5,34 +5,32 @@ use std::alloc::Global;
 use std::test::*;
 
 // Lines that no session takes once rates are settled.
-const MALFORMED: [&str; 26] = [
-    "values rate",
-    "nonsense",
-    "frame",
-    "frame 1 7 0 0 0 0",
-    "frame 1 7 0 0 0 0 blank 1",
-    "frame 1 7 0 0 0 0 blank ",
-    " frame 1 7 0 0 0 0 blank",
-    "frame  1 7 0 0 0 0 blank",
-    "frame 256 7 0 0 0 0 blank",
-    "frame 1 4294967296 0 0 0 0 blank",
-    "frame 1 7 65536 0 0 0 blank",
-    "frame 1 7 0 256 0 0 blank",
-    "frame 1 7 0 0 256 0 blank",
-    "frame 1 7 0 0 0 256 blank",
-    "frame +1 7 0 0 0 0 blank",
-    "frame 1 -7 0 0 0 0 blank",
-    "frame 1 7 0 0 0 0 +5",
-    "frame 1 7 0 0 0 0 -",
-    "frame 1 7 0 0 0 0 9223372036854775808",
-    "frame 1 7 0 0 0 0 Blank",
-    "read",
-    "read ",
-    "read 001",
-    "read 0g",
-    "read 00 00",
-    "read 00\r",
-];
+const MALFORMED: &str = "values rate
+nonsense
+frame
+frame 1 7 0 0 0 0
+frame 1 7 0 0 0 0 blank 1
+frame 1 7 0 0 0 0 blank\x20
+ frame 1 7 0 0 0 0 blank
+frame  1 7 0 0 0 0 blank
+frame 256 7 0 0 0 0 blank
+frame 1 4294967296 0 0 0 0 blank
+frame 1 7 65536 0 0 0 blank
+frame 1 7 0 256 0 0 blank
+frame 1 7 0 0 256 0 blank
+frame 1 7 0 0 0 256 blank
+frame +1 7 0 0 0 0 blank
+frame 1 -7 0 0 0 0 blank
+frame 1 7 0 0 0 0 +5
+frame 1 7 0 0 0 0 -
+frame 1 7 0 0 0 0 9223372036854775808
+frame 1 7 0 0 0 0 Blank
+read
+read\x20
+read 001
+read 0g
+read 00 00
+read 00\r";
 
 fn is_malformed(session: &mut Session, heap: Global, line: &[u8]) -> bool {
     matches!(session.respond(heap, line), Err(Fault::Malformed))
@@ -56,7 +54,7 @@ fn malformed_lines_are_refused_and_the_session_stays(rt: LibcRuntime) -> Result<
     check(is_malformed(&mut session, heap, b"read 00"))?;
     check(is_malformed(&mut session, heap, b"values"))?;
     check(says(&mut session, heap, "values rate", "values rate -> 0"))?;
-    for line in MALFORMED {
+    for line in MALFORMED.split('\n') {
         check(is_malformed(&mut session, heap, line.as_bytes()))?;
     }
     check(is_malformed(&mut session, heap, &[0x72, 0xff]))?;
