@@ -1,4 +1,5 @@
 // Frames: the worked one, frames from outside, and damaged ones.
+use crate::worked::worked_frame;
 use std::test::*;
 use votes::fingerprint::Fingerprint;
 use votes::fingerprint_value::FingerprintValue;
@@ -10,7 +11,6 @@ use votes::rate::Rate;
 use votes::rate_value::RateValue;
 use votes::value::Value;
 use votes::vote::Vote;
-use votes::worked::worked_frame;
 
 // PRECOMMIT, page 7, round 0, house 2, rate 12,500.
 const WORKED: [u8; 21] = [

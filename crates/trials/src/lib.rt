@@ -1,7 +1,8 @@
-// Trials of votes, frames and values on worked examples. There is nothing here but tests.
+// Worked examples of votes, frames and values: one that is shown of the definitions, and tests.
 #[cfg(test)]
 mod frames;
 #[cfg(test)]
 mod values;
 #[cfg(test)]
 mod voids;
+pub mod worked;

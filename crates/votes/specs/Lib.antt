@@ -4,4 +4,3 @@ pub mod Rates
 pub mod Fingerprints
 pub mod Votes
 pub mod Frames
-pub mod Worked

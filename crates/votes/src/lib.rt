@@ -7,4 +7,3 @@ pub mod rate;
 pub mod rate_value;
 pub mod value;
 pub mod vote;
-pub mod worked;

@@ -1,11 +1,11 @@
 // The worked frame of the format, made by the code and shown of the definition.
 ghost use mathlib.Core.Path.{_≡_};
-ghost use Rattle.votes.specs.Worked.{worked-bytes, Worked-frame};
-use crate::frame::write_frame;
-use crate::kind::Kind;
-use crate::rate::Rate;
-use crate::rate_value::RateValue;
-use crate::vote::Vote;
+ghost use Rattle.trials.specs.Worked.{worked-bytes, Worked-frame};
+use votes::frame::write_frame;
+use votes::kind::Kind;
+use votes::rate::Rate;
+use votes::rate_value::RateValue;
+use votes::vote::Vote;
 
 // PRECOMMIT, page 7, round 0, house 2, rate 12,500, as a frame.
 pub fn worked_frame() -> [u8; 21]

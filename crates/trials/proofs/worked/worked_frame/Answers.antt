@@ -1,7 +1,7 @@
 use mathlib.Core.Path.{refl, _∙_}
 use Rattle.std.proofs.shelf.Tests.{cond-true}
 use Rattle.votes.specs.Frames.{frame}
-use Rattle.votes.proofs.worked.worked_frame.Needs as need
+use Rattle.trials.proofs.worked.worked_frame.Needs as need
 
 pub returns : need.returns
 unfolding frame
