@@ -1,6 +1,6 @@
 // A session: what the lines so far have settled, and the answer to the next one.
 ghost use mathlib.Core.Path.{_≡_};
-ghost use Rattle.pagebook.specs.Stages.{stage-named, Responds};
+ghost use Rattle.pagebook.specs.Stages.{ignored, stage-named, Responds};
 use super::answers::frame_text;
 use super::answers::read_text;
 use super::fault::Fault;
@@ -29,7 +29,9 @@ pub(crate) struct Session {
 }
 
 // A line of spaces alone, or a comment.
-fn is_ignored(line: &[u8]) -> bool {
+fn is_ignored(line: &[u8]) -> bool
+    ensures { λ r. ⌜ r ≡ ignored (now (line .entry)) ⌝ }
+{
     for b in line {
         if *b != b' ' {
             return *b == b'#';

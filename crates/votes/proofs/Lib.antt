@@ -1,3 +1,4 @@
+-- The lemmas of this crate, by topic.
 pub mod BigEndian
 pub mod Fingerprints
 pub mod Framing

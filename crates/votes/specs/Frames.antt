@@ -28,8 +28,8 @@ module _ {V : Type 0} (G : Ghosts V) where
   -- length, version, kind, page, round, house, cp, val
   abbrev pub header : Vote V → List ℕ
   header v =
-      big 2 frame-length
-      ++ big 1 version
+      big 2 frame-length  -- length
+      ++ big 1 version  -- version
       ++ big 1 (v .kind)
       ++ big 4 (v .page)
       ++ big 2 (v .round)

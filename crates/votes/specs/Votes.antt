@@ -12,6 +12,7 @@ use Rattle.votes.specs.declared.kind.Shape.{Shape}
 use Rattle.votes.specs.declared.value.Value.{Ghosts}
 use Rattle.votes.specs.declared.vote.Vote.{Vote}
 
+-- what a circle counts to
 abbrev pub highest-page : ℕ
 highest-page = 65535
 
@@ -48,9 +49,11 @@ unfoldable pub same-slot : {V : Type 0} → Vote V → Vote V → Bool
 same-slot a b =
     eqb (a .kind) (b .kind) && (eqb (a .page) (b .page) && (eqb (a .round) (b .round) && (eqb (a .house) (b .house) && eqb (a .cp) (b .cp))))
 
+-- of the kinds that carry a value
 abbrev pub carrying : Shape
 carrying = record { cp = 0; low = 0; high = 0; valued = true }
 
+-- of the kinds that vote on the proposer, with val from low to high
 abbrev pub ballot : ℕ → ℕ → Shape
 ballot low high = record { cp = highest-cp; low = low; high = high; valued = false }
 
@@ -67,6 +70,7 @@ module _ {V : Type 0} (G : Ghosts V) where
   abbrev pub is-blank : V → Bool
   is-blank x = sameBytes (G .bytes x) (G .bytes (G .blank))
 
+  -- cp, val and value are as a kind asks
   abbrev pub fits-shape : Shape → Vote V → Bool
   fits-shape s v =
       leb (v .cp) (s .cp) && (leb (s .low) (v .val) && (leb (v .val) (s .high) && cond (s .valued) (not (is-blank (v .value))) (is-blank (v .value))))

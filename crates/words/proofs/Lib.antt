@@ -1,2 +1,3 @@
+-- The lemmas of this crate, by topic.
 pub mod Hexes
 pub mod Plus

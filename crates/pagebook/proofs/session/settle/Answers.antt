@@ -1,3 +1,4 @@
+-- Why `session::settle` meets its contract.
 use borrow.Author.Needs.{needs}
 use Rattle.std.proofs.shelf.Equals.{sameBytes-decides}
 use Rattle.pagebook.proofs.session.settle.Needs as need

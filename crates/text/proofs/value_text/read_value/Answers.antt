@@ -1,3 +1,4 @@
+-- Why `value_text::read_value` meets its contract.
 use mathlib.Core.Path.{_≡_}
 use lib.Chars.{codes}
 use Rattle.std.proofs.shelf.Results.{made-weaker}

@@ -1,3 +1,4 @@
+-- Why `value_text::show_value` meets its contract.
 use mathlib.Core.Bool.{true, false}
 use mathlib.Core.Path.{_≡_, sym, ap, _∙_}
 use lib.Chars.{codes}

@@ -1,3 +1,4 @@
+-- Why `vote_text::read_vote` meets its contract.
 use mathlib.Core.Path.{_≡_, sym, _∙_}
 use Prim.Native.Nat.{_<_}
 use native.Mathlib.Omega.{arith}

@@ -1,3 +1,4 @@
+-- Why `vote_text::show_vote` meets its contract.
 use mathlib.Core.List.{List, [], _∷_, append-assoc}
 use mathlib.Core.Path.{_≡_, ap, _∙_}
 use Prim.Native.Nat.{ℕ}

@@ -1,3 +1,4 @@
+-- Why `worked::worked_frame` meets its contract.
 use mathlib.Core.Path.{refl, _∙_}
 use Rattle.std.proofs.shelf.Tests.{cond-true}
 use Rattle.votes.specs.Frames.{frame}

@@ -1,3 +1,4 @@
+-- Why `frame::parse` meets its contract.
 use mathlib.Core.Path.{_∙_}
 use Prim.Native.Nat.{_<_, _≤_}
 use native.Mathlib.Omega.{arith}

@@ -1,3 +1,4 @@
+-- Why `frame::read_frame` meets its contract.
 use Rattle.votes.proofs.BigEndian.{octets-from-fits}
 use Rattle.votes.proofs.Framing.{read-promises, stands-for-some, stands-for-none}
 use Rattle.votes.proofs.frame.read_frame.Needs as need

@@ -1,3 +1,4 @@
+-- Why `frame::write_frame` meets its contract.
 use mathlib.Core.Path.{sym, subst, _∙_}
 use native.Mathlib.Omega.{arith}
 use borrow.Author.Needs.{needs}

@@ -1,3 +1,4 @@
+-- Why `hex::read_hex` meets its contract.
 use mathlib.Core.Logic.{inl, inr}
 use mathlib.Core.Path.{_≡_, sym, ap, _∙_}
 use Prim.Native.Nat.{_+_, _*_, _<_}

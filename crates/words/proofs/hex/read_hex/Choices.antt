@@ -1,3 +1,4 @@
+-- What holds at each turn of the loop of `hex::read_hex`.
 use mathlib.Core.Path.{_≡_}
 use Prim.Native.Nat.{_*_}
 use lib.ListN.{drop}

@@ -1,3 +1,4 @@
+-- What holds at each turn of the loop of `hex::show_hex`.
 use mathlib.Core.Path.{_≡_}
 use lib.ListN.{take}
 use Rattle.std.specs.Of.String.{string-bytes}

@@ -1,3 +1,4 @@
+-- Why `number::number` meets its contract.
 use mathlib.Core.List.{List}
 use mathlib.Core.Path.{_≡_, subst}
 use Prim.Native.Nat.{ℕ, _≤_}

@@ -1,3 +1,4 @@
+-- Why `rate_text::RateText::from_word` meets its contract.
 use mathlib.Core.Path.{subst, sym, _∙_}
 use mir.Facts.{toZ-ofZ}
 use mir.Syntax.{w64}

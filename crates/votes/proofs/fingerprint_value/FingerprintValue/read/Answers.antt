@@ -1,3 +1,4 @@
+-- Why `fingerprint_value::FingerprintValue::read` meets its contract.
 use mathlib.Core.Path.{_≡_, ap, sym, _∙_}
 use mathlib.Core.List.{_∷_, []}
 use native.Mathlib.Omega.{arith}

@@ -1,3 +1,4 @@
+-- Why `fingerprint_value::FingerprintValue::same` meets its contract.
 use mathlib.Core.Path.{ap}
 use Rattle.std.proofs.shelf.Equals.{matches-decides, sameBytes-decides}
 use Rattle.std.proofs.shelf.Ways.{same-from-decides, decides-like}

@@ -1,3 +1,4 @@
+-- Why `fingerprint_value::FingerprintValue::write` meets its contract.
 use mathlib.Core.Path.{_≡_, sym, ap, ap₂, _∙_}
 use mathlib.Core.List.{[], _++_}
 use Prim.Native.Nat.{_+_, _*_, _-_, _<_}

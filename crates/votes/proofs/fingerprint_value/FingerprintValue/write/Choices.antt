@@ -1,3 +1,4 @@
+-- What holds at each turn of the loop of `fingerprint_value::FingerprintValue::write`.
 use mathlib.Core.Path.{_≡_}
 use Prim.Native.Nat.{_*_}
 use lib.ListN.{take}

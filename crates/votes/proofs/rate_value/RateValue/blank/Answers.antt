@@ -1,3 +1,4 @@
+-- Why `rate_value::RateValue::blank` meets its contract.
 use mathlib.Core.Path.{refl}
 use Rattle.votes.proofs.Rates.{rate-from-amount}
 use Rattle.votes.proofs.rate_value.RateValue.blank.Needs as need

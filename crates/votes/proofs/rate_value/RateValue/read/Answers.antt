@@ -1,3 +1,4 @@
+-- Why `rate_value::RateValue::read` meets its contract.
 use mathlib.Core.Path.{_≡_, ap, sym, _∙_}
 use Prim.Native.Nat.{_%_, _^_, _<_}
 use native.Mathlib.Nat.{mod-eq-of-lt}

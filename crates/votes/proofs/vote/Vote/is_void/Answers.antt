@@ -1,3 +1,4 @@
+-- Why `vote::Vote::is_void` meets its contract.
 use mathlib.Core.Bool.{not}
 use mathlib.Core.Path.{ap, _∙_}
 use Rattle.votes.proofs.Voids.{void-unnamed, void-in-range, void-out-of-range}

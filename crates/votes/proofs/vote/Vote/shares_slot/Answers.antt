@@ -1,3 +1,4 @@
+-- Why `vote::Vote::shares_slot` meets its contract.
 use borrow.Author.Needs.{needs}
 use Rattle.votes.specs.Votes.{same-slot}
 use Rattle.votes.proofs.vote.Vote.shares_slot.Needs as need
