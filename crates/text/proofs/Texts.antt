@@ -1,16 +1,14 @@
 -- The texts of rates and fingerprints read back, and none of them is the word `blank`. Assumes nothing.
-use mathlib.Core.Bool.{Bool, true, cond}
-use mathlib.Core.List.{List, [], _∷_}
+use mathlib.Core.List.{List}
 use mathlib.Core.Logic.{_⊎_, inl, inr}
 use mathlib.Core.Path.{_≡_, refl, sym, ap, _∙_}
-use Prim.Native.Nat.{ℕ, suc, _*_, _^_, _<_, _≤_}
+use Prim.Native.Nat.{ℕ, _*_, _^_, _<_}
 use native.Mathlib.Omega.{arith}
 use lib.Chars.{codes}
 use lib.IntN.{ℤ, pos, negsuc}
 use lib.ListN.{length, getD}
 use lib.Signed.{mag}
 use mir.Syntax.{w64}
-use mir.Val.{SFits}
 use Rattle.std.proofs.shelf.Decimals.{decimal-reads, parses-back-signed}
 use Rattle.std.proofs.shelf.Numerals.{digit-at}
 use Rattle.std.proofs.shelf.Tests.{cond-true, eq-eqb}
@@ -20,7 +18,6 @@ use Rattle.std.specs.declared.option.Option.{Option}
 use Rattle.std.specs.declared.option.Option.the-variants.{Some, None}
 use Rattle.std.specs.declared.result.Result.{Result}
 use Rattle.std.specs.declared.result.Result.the-variants.{Ok, Err}
-use Rattle.words.specs.Hex.{hex-text, hex-bytes}
 use Rattle.text.specs.Fingerprints.{Fingerprint-reads, fingerprint-text, fingerprint-of}
 use Rattle.text.specs.Rates.{Rate-reads, rate-text}
 use Rattle.words.proofs.Hexes.{hex-reads-back, length-hex-text}

@@ -33,7 +33,7 @@ pub octets-big : (k n : ℕ) → Octets (big k n)
 octets-big zero n = tt
 octets-big (suc k) n = (mod-lt (n / 256 ^ k) (omega arith), octets-big k n)
 
-pub number-lt : (bs : List ℕ) → Octets bs → number bs < 256 ^ length bs
+number-lt : (bs : List ℕ) → Octets bs → number bs < 256 ^ length bs
 number-lt [] h = omega arith
 number-lt (b ∷ bs) (here, more) = rw pow-succ' (digits-lt here (number-lt bs more))
 
@@ -61,12 +61,12 @@ number-cancels (a ∷ xs) (b ∷ ys) l (pa, p) (qb, q) e =
     cc
 
 -- bytes that are read are written back
-pub big-number : (k : ℕ) (ys : List ℕ) → length ys ≡ k → Octets ys → big k (number ys) ≡ ys
+big-number : (k : ℕ) (ys : List ℕ) → length ys ≡ k → Octets ys → big k (number ys) ≡ ys
 big-number k ys long small =
     let fits : number ys < 256 ^ k = rw long at (number-lt ys small) in
     number-cancels (big k (number ys)) ys (length-big k (number ys) ∙ sym long) (octets-big k (number ys)) small (number-big k (number ys) fits)
 
-pub field-number : (size place : ℕ) (bs : List ℕ) → place + size ≤ length bs → field size place bs ≡ number (take size (drop place bs))
+field-number : (size place : ℕ) (bs : List ℕ) → place + size ≤ length bs → field size place bs ≡ number (take size (drop place bs))
 field-number zero place bs within = refl
 field-number (suc size) place bs within =
     let here : place < length bs = omega arith in
@@ -74,15 +74,16 @@ field-number (suc size) place bs within =
     let long : length (take size (drop (suc place) bs)) ≡ size = simp (length-take, length-drop) (omega arith) in
     rw (drop-more bs place 0 here, add-one, long) (ap (λ n. getD bs place 0 * 256 ^ size + n) (field-number size (suc place) bs more))
 
--- a field that is read is written back
-pub big-field : (size place : ℕ) (bs : List ℕ) → place + size ≤ length bs → Octets bs → big size (field size place bs) ≡ take size (drop place bs)
-big-field size place bs within small =
-    let part = take size (drop place bs) in
-    let long : length part ≡ size = simp (length-take, length-drop) (omega arith) in
-    ap (big size) (field-number size place bs within) ∙ big-number size part long (all-take (λ b. b < 256) size (drop place bs) (all-drop (λ b. b < 256) place bs small))
+module _ (size place : ℕ) (bs : List ℕ) (within : place + size ≤ length bs) (small : Octets bs) where
+  part-long : length (take size (drop place bs)) ≡ size
+  part-long = simp (length-take, length-drop) (omega arith)
 
-pub field-lt : (size place : ℕ) (bs : List ℕ) → place + size ≤ length bs → Octets bs → field size place bs < 256 ^ size
-field-lt size place bs within small =
-    let part = take size (drop place bs) in
-    let long : length part ≡ size = simp (length-take, length-drop) (omega arith) in
-    rw (field-number size place bs within) (rw long at (number-lt part (all-take (λ b. b < 256) size (drop place bs) (all-drop (λ b. b < 256) place bs small))))
+  part-octets : Octets (take size (drop place bs))
+  part-octets = all-take (λ b. b < 256) size (drop place bs) (all-drop (λ b. b < 256) place bs small)
+
+  -- a field that is read is written back
+  pub big-field : big size (field size place bs) ≡ take size (drop place bs)
+  big-field = ap (big size) (field-number size place bs within) ∙ big-number size (take size (drop place bs)) part-long part-octets
+
+  pub field-lt : field size place bs < 256 ^ size
+  field-lt = rw (field-number size place bs within) (rw part-long at (number-lt (take size (drop place bs)) part-octets))

@@ -1,13 +1,12 @@
 // Frames: a vote as bytes, and the vote that bytes stand for.
-ghost use mathlib.Core.Bool.{true, false, cond};
+ghost use mathlib.Core.Bool.{true, cond};
 ghost use mathlib.Core.Path.{_≡_};
-ghost use Prim.Native.Nat.{ℕ, _+_};
+ghost use Prim.Native.Nat.{_+_};
 ghost use lib.Dec.{eqb};
 ghost use lib.ListN.{length};
 ghost use Rattle.std.specs.Results.{isOk};
 ghost use Rattle.std.specs.declared.option.Option.the-variants.{Some, None};
 ghost use Rattle.votes.specs.Frames.{frame, frame-size, frame-length, header as header-of, readable, fields, stands-for, Reads-back, Writes-back, Unreadable-is-empty};
-ghost use Rattle.votes.specs.Votes.{empty-vote};
 use crate::value::Value;
 use crate::vote::Vote;
 

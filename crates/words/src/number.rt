@@ -1,5 +1,4 @@
 // A number as a word of digits.
-ghost use mathlib.Core.Path.{_≡_};
 ghost use Prim.Native.Nat.{_≤_};
 ghost use Rattle.std.specs.Numbers.{Checked};
 ghost use Rattle.std.specs.Reads.{Numeral, value};

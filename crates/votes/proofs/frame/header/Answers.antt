@@ -1,6 +1,4 @@
 -- Why `frame::header` meets its contract.
-use mathlib.Core.Path.{refl}
-use Prim.Native.Nat.{_<_}
 use native.Mathlib.Nat.{div-one, mod-eq-of-lt}
 use borrow.Author.Needs.{needs}
 use mir.Syntax.{w8}

@@ -1,8 +1,8 @@
 -- Why `hex::show_hex` meets its contract.
-use mathlib.Core.Path.{_≡_, sym, ap, _∙_}
+use mathlib.Core.Path.{ap, _∙_}
 use Prim.Native.Nat.{_/_, _%_, _<_}
 use native.Mathlib.Omega.{arith}
-use lib.ListN.{length, getD}
+use lib.ListN.{getD}
 use mathlib.Core.List.{[], _∷_}
 use Rattle.std.proofs.shelf.Lists.{take-all}
 use Rattle.std.specs.Of.String.{string-bytes}

@@ -8,8 +8,8 @@ use lib.ListN.{length}
 use mir.Facts.{toZ-ofZ}
 use mir.Syntax.{w64}
 use mir.Val.{toZ, ofZ}
-use Rattle.std.proofs.shelf.Tests.{eq-eqb, cond-true, ltb-false}
-use Rattle.std.specs.declared.option.Option.the-variants.{Some, None}
+use Rattle.std.proofs.shelf.Tests.{eq-eqb, cond-true}
+use Rattle.std.specs.declared.option.Option.the-variants.{Some}
 use Rattle.votes.specs.Bytes.{field}
 use Rattle.votes.specs.Rates.{rate-parsed}
 use Rattle.votes.proofs.BigEndian.{octets-from-fits, field-lt}
