@@ -1,5 +1,6 @@
 // A session: what the lines so far have settled, and the answer to the next one.
 ghost use mathlib.Core.Path.{_≡_};
+ghost use Rattle.pagebook.specs.declared.session.Stage.the-variants.{Start};
 ghost use Rattle.pagebook.specs.Stages.{ignored, stage-named, Responds};
 use super::answers::frame_text;
 use super::answers::read_text;
@@ -68,7 +69,9 @@ fn answer<V: TextValue>(heap: Global, line: &str) -> Result<String, Fault> {
 }
 
 impl Session {
-    pub(crate) fn new() -> Session {
+    pub(crate) fn new() -> Session
+        ensures { λ r. ⌜ r .stage ≡ Start ⌝ }
+    {
         Session {
             stage: Stage::Start,
         }
