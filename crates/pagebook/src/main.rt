@@ -1,4 +1,6 @@
 // pagebook: reads scenarios line by line, from files or standard input, and prints what each line answers.
+#![tactic(auto)]
+
 mod answers;
 mod command;
 mod desk;

@@ -1,4 +1,6 @@
 // Worked examples of votes, frames and posts: one that is shown of the definitions, and tests.
+#![tactic(auto)]
+
 #[cfg(test)]
 mod frames;
 #[cfg(test)]
