@@ -1,7 +1,9 @@
 // Rates as a kind of value: eight bytes in two's complement, and the smallest number for blank.
 ghost use Rattle.values.specs.Rates.{rate_bytes, rate_parsed, rate_blank};
 ghost use Rattle.values.specs.RatesLemmas.{rate_reading, rate_writing};
-ghost use Rattle.std.proofs.Common.{rules, arith};
+ghost use Rattle.values.specs.BigEndian.{length-big, octets-big};
+ghost use Rattle.std.proofs.Common.{lit≤, of_z};
+ghost use Rattle.std.specs.Int.{w64};
 
 use crate::rate::Rate;
 use crate::value::Value;
@@ -15,13 +17,13 @@ impl Value for Rate {
 
     ghost blank = { rate_blank };
 
-    ghost least = { first_of (Prim.search rules, Prim.grind (arith, Self.row.coded.inj)) };
+    ghost least = { lit≤ tt };
 
-    ghost most = { first_of (Prim.search rules, Prim.grind (arith, Self.row.coded.inj)) };
+    ghost most = { lit≤ tt };
 
-    ghost long = { first_of (Prim.search rules, Prim.grind (arith, Self.row.coded.inj)) };
+    ghost long = { λ r. length-big 8 (of_z w64 r.amount) };
 
-    ghost octets = { first_of (Prim.search rules, Prim.grind (arith, Self.row.coded.inj)) };
+    ghost octets = { λ r. octets-big 8 (of_z w64 r.amount) };
 
     ghost reading = { rate_reading };
 

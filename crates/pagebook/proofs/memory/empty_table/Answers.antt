@@ -6,6 +6,6 @@ use Rattle.pagebook.proofs.memory.empty_table.Goals as goal
 
 pub loop-preserved : goal.loop-preserved
 loop-preserved g c =
-    c.in-ok-push.ensures.items
+    c.in_ok-push.ensures.items
     ∙ ap₂ (λ table vote. table ++ vote ∷ []) c.loop.invariant c.empty.ensures
     ∙ replicate_more c.loop.counter (empty_vote g.row.V-Value)

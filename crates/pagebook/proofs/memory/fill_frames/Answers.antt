@@ -13,6 +13,6 @@ returns g c =
     let bytes = c.args.bytes.now in
     let place = c.args.place in
     let vote = c.args.vote.now in
-    let send = c.send-to-frames.ensures in
-    let done : c.is-ok.result ≡ ltb place (frame_capacity G bytes) = c.is-ok.ensures.value ∙ ap is_ok send.value ∙ sent_at Frame (frame_capacity G bytes) place (frame_votes G place bytes) (frame_count G place bytes) in
+    let send = c.send_to_frames.ensures in
+    let done : c.is_ok.result ≡ ltb place (frame_capacity G bytes) = c.is_ok.ensures.value ∙ ap is_ok send.value ∙ sent_at Frame (frame_capacity G bytes) place (frame_votes G place bytes) (frame_count G place bytes) in
     record { value = done; memory = send.memory ∙ bytes_filled G place bytes vote ∙ ap (λ b. cond b (with_frame G place bytes (frame G vote)) bytes) (sym done) }

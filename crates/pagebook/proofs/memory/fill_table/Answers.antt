@@ -11,6 +11,6 @@ returns g c =
     let table = c.args.table.now in
     let place = c.args.place in
     let vote = c.args.vote.now in
-    let send = c.send-to-table.ensures in
-    let done : c.is-ok.result ≡ ltb place (table_capacity table) = c.is-ok.ensures.value ∙ ap is_ok send.value ∙ sent_at Table (table_capacity table) place (table_votes place table) (table_count place table) in
+    let send = c.send_to_table.ensures in
+    let done : c.is_ok.result ≡ ltb place (table_capacity table) = c.is_ok.ensures.value ∙ ap is_ok send.value ∙ sent_at Table (table_capacity table) place (table_votes place table) (table_count place table) in
     record { value = done; memory = send.memory ∙ table_filled place table vote ∙ ap (λ b. cond b (set table place vote) table) (sym done) }

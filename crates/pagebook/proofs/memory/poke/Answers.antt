@@ -11,5 +11,5 @@ returns c =
     let offset = c.args.offset in
     record {
       value = sym (le-leb (offset + length new) (length bytes) (omega (arith, c.if-new-bytes.false, c.if-offset-bytes.false)));
-      memory = ap₂ (λ xs ys. take offset bytes ++ (xs ++ ys)) c.copy-from-slice.ensures.after (Post-is offset (offset + length new) bytes (omega arith));
+      memory = ap₂ (λ xs ys. take offset bytes ++ (xs ++ ys)) c.copy_from_slice.ensures.after (Post-is offset (offset + length new) bytes (omega arith));
     }

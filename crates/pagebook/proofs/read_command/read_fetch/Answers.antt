@@ -4,19 +4,19 @@ use Rattle.pagebook.specs.Commands.{FetchWords}
 use Rattle.pagebook.proofs.Reading.{when_yes, when_no, given, missing, counted, miscounted, number_at}
 use Rattle.pagebook.proofs.read_command.read_fetch.Goals as goal
 
-pub returns-in-default : goal.returns-in-default
+pub returns-in_default : goal.returns-in_default
 unfolding FetchWords
-returns-in-default g c =
+returns-in_default g c =
     let other : length c.args.rest.now ≡ 1 → ⊥ = search rules in
     when_no _ _ _ (miscounted c.args.rest.now 1 other) refl
 
-pub returns-in-err-place : goal.returns-in-err-place
+pub returns-in_err-place : goal.returns-in_err-place
 unfolding FetchWords
-returns-in-err-place g c =
+returns-in_err-place g c =
     let ws = c.args.rest.now in
     let long : length ws ≡ 1 = search rules in
     let read = number_at ws c.number.result 0 _ (omega arith) c.number.ensures in
-    when_yes _ _ _ (counted ws 1 long) (c.number.result, read, missing _ _ _ c.in-err-place.was c.from-residual.ensures)
+    when_yes _ _ _ (counted ws 1 long) (c.number.result, read, missing _ _ _ c.in_err-place.was c.from-residual.ensures)
 
 pub returns : goal.returns
 unfolding FetchWords
@@ -24,4 +24,4 @@ returns g c =
     let ws = c.args.rest.now in
     let long : length ws ≡ 1 = search rules in
     let read = number_at ws c.number.result 0 _ (omega arith) c.number.ensures in
-    when_yes _ _ _ (counted ws 1 long) (c.number.result, read, given _ _ _ _ c.in-ok-place.was refl)
+    when_yes _ _ _ (counted ws 1 long) (c.number.result, read, given _ _ _ _ c.in_ok-place.was refl)

@@ -4,19 +4,19 @@ use Rattle.pagebook.specs.Commands.{PokeWords}
 use Rattle.pagebook.proofs.Reading.{when_yes, when_no, given, missing, counted, miscounted, number_at, bytes_at}
 use Rattle.pagebook.proofs.read_command.read_poke.Goals as goal
 
-pub returns-in-default : goal.returns-in-default
+pub returns-in_default : goal.returns-in_default
 unfolding PokeWords
-returns-in-default g c =
+returns-in_default g c =
     let other : length c.args.rest.now ≡ 2 → ⊥ = search rules in
     when_no _ _ _ (miscounted c.args.rest.now 2 other) refl
 
-pub returns-in-default-number : goal.returns-in-default-number
+pub returns-in_default-number : goal.returns-in_default-number
 unfolding PokeWords
-returns-in-default-number g c =
+returns-in_default-number g c =
     let ws = c.args.rest.now in
     let long : length ws ≡ 2 = search rules in
     let offset = number_at ws c.number.result 0 _ (omega arith) c.number.ensures in
-    when_yes _ _ _ (counted ws 2 long) (c.number.result, offset, missing _ _ _ c.in-default-number.is refl)
+    when_yes _ _ _ (counted ws 2 long) (c.number.result, offset, missing _ _ _ c.in_default-number.is refl)
 
 pub returns-in-Some-2 : goal.returns-in-Some-2
 unfolding PokeWords
@@ -24,8 +24,8 @@ returns-in-Some-2 g c =
     let ws = c.args.rest.now in
     let long : length ws ≡ 2 = search rules in
     let offset = number_at ws c.number.result 0 _ (omega arith) c.number.ensures in
-    let bytes = bytes_at ws c.in-ok-bytes.field-0 1 _ (omega arith) c.in-ok-bytes.ensures in
-    when_yes _ _ _ (counted ws 2 long) (c.number.result, offset, given _ _ _ _ c.in-Some.is (c.in-ok-bytes.field-0, bytes, given _ _ _ _ c.in-Some-2.is refl))
+    let bytes = bytes_at ws c.in_ok-bytes.field-0 1 _ (omega arith) c.in_ok-bytes.ensures in
+    when_yes _ _ _ (counted ws 2 long) (c.number.result, offset, given _ _ _ _ c.in-Some.is (c.in_ok-bytes.field-0, bytes, given _ _ _ _ c.in-Some-2.is refl))
 
 pub returns-in-None : goal.returns-in-None
 unfolding PokeWords
@@ -33,5 +33,5 @@ returns-in-None g c =
     let ws = c.args.rest.now in
     let long : length ws ≡ 2 = search rules in
     let offset = number_at ws c.number.result 0 _ (omega arith) c.number.ensures in
-    let bytes = bytes_at ws c.in-ok-bytes.field-0 1 _ (omega arith) c.in-ok-bytes.ensures in
-    when_yes _ _ _ (counted ws 2 long) (c.number.result, offset, given _ _ _ _ c.in-Some.is (c.in-ok-bytes.field-0, bytes, missing _ _ _ c.in-None.is refl))
+    let bytes = bytes_at ws c.in_ok-bytes.field-0 1 _ (omega arith) c.in_ok-bytes.ensures in
+    when_yes _ _ _ (counted ws 2 long) (c.number.result, offset, given _ _ _ _ c.in-Some.is (c.in_ok-bytes.field-0, bytes, missing _ _ _ c.in-None.is refl))

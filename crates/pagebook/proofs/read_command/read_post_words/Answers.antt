@@ -9,21 +9,21 @@ unfolding PostWords
 returns-in-len2 g c =
     let ws = c.args.rest.now in
     let long : length ws ≡ 2 = search rules in
-    let o = c.read-post.result in
-    when_yes _ _ _ (counted ws 2 long) (first_two ws (λ form size. PostReads form size (codes "0") o) _ _ (omega arith) c.read-post.ensures)
+    let o = c.read_post.result in
+    when_yes _ _ _ (counted ws 2 long) (first_two ws (λ form size. PostReads form size (codes "0") o) _ _ (omega arith) c.read_post.ensures)
 
 pub returns-in-len3 : goal.returns-in-len3
 unfolding PostWords
 returns-in-len3 g c =
     let ws = c.args.rest.now in
     let long : length ws ≡ 3 = search rules in
-    let o = c.read-post-in-len3.result in
-    let read = first_three ws (λ form size count. PostReads form size count o) _ _ _ (omega arith) c.read-post-in-len3.ensures in
+    let o = c.read_post-in-len3.result in
+    let read = first_three ws (λ form size count. PostReads form size count o) _ _ _ (omega arith) c.read_post-in-len3.ensures in
     when_no _ _ _ (miscounted ws 2 (λ e. omega arith)) (when_yes _ _ _ (counted ws 3 long) read)
 
-pub returns-in-default : goal.returns-in-default
+pub returns-in_default : goal.returns-in_default
 unfolding PostWords
-returns-in-default g c =
+returns-in_default g c =
     let ws = c.args.rest.now in
     let not-two : length ws ≡ 2 → ⊥ = search rules in
     let not_three : length ws ≡ 3 → ⊥ = search rules in

@@ -4,9 +4,9 @@ use Rattle.pagebook.specs.Commands.{ReadWords}
 use Rattle.pagebook.proofs.Reading.{when_yes, when_no, given, missing, counted, miscounted, bytes_at}
 use Rattle.pagebook.proofs.read_command.read_read.Goals as goal
 
-pub returns-in-default : goal.returns-in-default
+pub returns-in_default : goal.returns-in_default
 unfolding ReadWords
-returns-in-default g c =
+returns-in_default g c =
     let other : length c.args.rest.now ≡ 1 → ⊥ = search rules in
     when_no _ _ _ (miscounted c.args.rest.now 1 other) refl
 
@@ -15,13 +15,13 @@ unfolding ReadWords
 returns-in-Some g c =
     let ws = c.args.rest.now in
     let long : length ws ≡ 1 = search rules in
-    let read = bytes_at ws c.in-ok-bytes.field-0 0 _ (omega arith) c.in-ok-bytes.ensures in
-    when_yes _ _ _ (counted ws 1 long) (c.in-ok-bytes.field-0, read, given _ _ _ _ c.in-Some.is refl)
+    let read = bytes_at ws c.in_ok-bytes.field-0 0 _ (omega arith) c.in_ok-bytes.ensures in
+    when_yes _ _ _ (counted ws 1 long) (c.in_ok-bytes.field-0, read, given _ _ _ _ c.in-Some.is refl)
 
 pub returns-in-None : goal.returns-in-None
 unfolding ReadWords
 returns-in-None g c =
     let ws = c.args.rest.now in
     let long : length ws ≡ 1 = search rules in
-    let read = bytes_at ws c.in-ok-bytes.field-0 0 _ (omega arith) c.in-ok-bytes.ensures in
-    when_yes _ _ _ (counted ws 1 long) (c.in-ok-bytes.field-0, read, missing _ _ _ c.in-None.is refl)
+    let read = bytes_at ws c.in_ok-bytes.field-0 0 _ (omega arith) c.in_ok-bytes.ensures in
+    when_yes _ _ _ (counted ws 1 long) (c.in_ok-bytes.field-0, read, missing _ _ _ c.in-None.is refl)

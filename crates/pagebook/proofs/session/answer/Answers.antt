@@ -5,7 +5,7 @@ use Rattle.std.proofs.Common.{vec_items}
 use Rattle.pagebook.proofs.session.answer.Goals as goal
 
 pub returns-in-Some-2 : goal.returns-in-Some-2
-returns-in-Some-2 g c = answered g.row.V-Value g.V.TextValue c.args.line.now (view c.args.desk.now) (view c.carry-out.new.self) c.as-slice.result.now (vec_items c.in-ok-words.words) c.as-slice.ensures.value c.in-ok-words.ensures c.in-ok-command.field-0 c.in-ok-command.ensures c.in-Some.command c.in-Some.is c.in-ok-answer.field-0 c.in-ok-answer.ensures c.in-Some-2.answer c.in-ok-format.field-0 c.in-Some-2.is c.in-ok-format.ensures.ok
+returns-in-Some-2 g c = answered g.row.V-Value g.V.TextValue c.args.line.now (view c.args.desk.now) (view c.carry_out.new.self) c.as_slice.result.now (vec_items c.in_ok-words.words) c.as_slice.ensures.value c.in_ok-words.ensures c.in_ok-command.field-0 c.in_ok-command.ensures c.in-Some.command c.in-Some.is c.in_ok-answer.field-0 c.in_ok-answer.ensures c.in-Some-2.answer c.in_ok-format.field-0 c.in-Some-2.is c.in_ok-format.ensures.ok
 
 pub returns : goal.returns
-returns g c = not_answered g.row.V-Value g.V.TextValue c.args.line.now (view c.args.desk.now) (view c.carry-out.new.self) c.as-slice.result.now (vec_items c.in-ok-words.words) c.as-slice.ensures.value c.in-ok-words.ensures c.in-ok-command.field-0 c.in-ok-command.ensures c.in-Some.command c.in-Some.is c.in-ok-answer.field-0 c.in-ok-answer.ensures c.in-None.is
+returns g c = not_answered g.row.V-Value g.V.TextValue c.args.line.now (view c.args.desk.now) (view c.carry_out.new.self) c.as_slice.result.now (vec_items c.in_ok-words.words) c.as_slice.ensures.value c.in_ok-words.ensures c.in_ok-command.field-0 c.in_ok-command.ensures c.in-Some.command c.in-Some.is c.in_ok-answer.field-0 c.in_ok-answer.ensures c.in-None.is

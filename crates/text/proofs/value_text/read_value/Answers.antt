@@ -15,4 +15,4 @@ returns-else-eq g c =
     let T = g.V.TextValue in
     let word = c.args.word.now in
     let other : word ≡ codes "blank" → ⊥ = not_from_Decides c.eq.result c.eq.ensures c.if-eq.false in
-    IfOk-weaker c.from-word.result (T.reads word) (ValueReads G T word) (λ o read. reads_other G T word o other read) c.from-word.ensures
+    IfOk-weaker c.from_word.result (T.reads word) (ValueReads G T word) (λ o read. reads_other G T word o other read) c.from_word.ensures

@@ -9,4 +9,4 @@ returns g c =
     let house : Fits w8 v.house = search rules in
     let cp : Fits w8 v.cp = search rules in
     let val : Fits w8 v.val = search rules in
-    simp (c.to-be-bytes.ensures, c.to-be-bytes-2.ensures, c.to-be-bytes-3.ensures, c.frame_length.ensures, div-one, mod-eq_of_lt kind.fits, mod-eq_of_lt house.fits, mod-eq_of_lt cp.fits, mod-eq_of_lt val.fits)
+    simp (c.to_be_bytes.ensures, c.to_be_bytes-2.ensures, c.to_be_bytes-3.ensures, c.frame_length.ensures, div-one, mod-eq_of_lt kind.fits, mod-eq_of_lt house.fits, mod-eq_of_lt cp.fits, mod-eq_of_lt val.fits)

@@ -17,7 +17,7 @@ returns g c =
     let cp : Fits w8 v.cp = search rules in
     let val : Fits w8 v.val = search rules in
     let wide : Widths v = record { kind = kind.fits; page = page.fits; round = round.fits; house = house.fits; cp = cp.fits; val = val.fits } in
-    let after = frame_written G v c.args.out.now (c.copy-from-slice.ensures.after ∙ c.header.ensures) c.write.ensures in
+    let after = frame_written G v c.args.out.now (c.copy_from_slice.ensures.after ∙ c.header.ensures) c.write.ensures in
     record {
       test = sym (eq-eqb _ _ (omega arith));
       after = after;

@@ -8,8 +8,8 @@ use Rattle.votes.specs.Frames.{stands_for}
 use Rattle.votes.specs.Votes.{numbers_of}
 use Rattle.posts.proofs.frame_post.FramePostPost.numbers.Goals as goal
 
-pub frame-at-requires : goal.frame-at-requires
-frame-at-requires g c = omega (arith, c.if-place-count.true, c.count.ensures, frame_count g.row.V-Value c.args.self.now.count c.args.self.now.bytes.now)
+pub frame_at-requires : goal.frame_at-requires
+frame_at-requires g c = omega (arith, c.if-place-count.true, c.count.ensures, frame_count g.row.V-Value c.args.self.now.count c.args.self.now.bytes.now)
 
 pub returns-then-place-count : goal.returns-then-place-count
 returns-then-place-count g c =
@@ -19,7 +19,7 @@ returns-then-place-count g c =
     let bytes = c.args.self.now.bytes.now in
     let votes = frame_votes G count bytes in
     let there = frame-nth G count bytes place (omega (arith, c.if-place-count.true, c.count.ensures)) in
-    let read = c.read-numbers.ensures ∙ ap (λ bs. numbers_of (stands_for G bs)) c.frame_at.ensures in
+    let read = c.read_numbers.ensures ∙ ap (λ bs. numbers_of (stands_for G bs)) c.frame_at.ensures in
     ap Ok read ∙ numbers_alike Frame votes place _ (fetched_there Frame votes place _ there)
 
 pub returns-else-place-count : goal.returns-else-place-count

@@ -23,13 +23,13 @@ returns-then-count-capacity g c =
       lent = refl {a = c.args.self.now.bytes.ghost_name};
     }
 
-pub slice-bounds-write-frame-end : goal.slice-bounds-write-frame-end
-slice-bounds-write-frame-end g c =
+pub slice_bounds-write_frame-end : goal.slice_bounds-write_frame-end
+slice_bounds-write_frame-end g c =
     let bytes = c.args.self.now.bytes.now in
     let n = c.count-count.result in
-    let s = c.frame-size-size.result in
+    let s = c.frame_size-size.result in
     let room : n < frame_capacity g.row.V-Value bytes = omega (arith, c.capacity.ensures, c.if-count-capacity.false) in
-    let inside : n * s + s ≤ length bytes = subst (λ m. n * m + m ≤ length bytes) (sym c.frame-size-size.ensures) (frame_inside g.row.V-Value bytes n room) in
+    let inside : n * s + s ≤ length bytes = subst (λ m. n * m + m ≤ length bytes) (sym c.frame_size-size.ensures) (frame_inside g.row.V-Value bytes n room) in
     search rules
 
 pub returns : goal.returns
@@ -39,12 +39,12 @@ returns g c =
     let bytes = c.args.self.now.bytes.now in
     let vote = c.args.vote.now in
     let n = c.count-count.result in
-    let s = c.frame-size-size.result in
+    let s = c.frame_size-size.result in
     let counted = c.count-count.ensures in
     let room : n < frame_capacity G bytes = omega (arith, c.capacity.ensures, c.if-count-capacity.false) in
-    let new = c.write-frame.new.out in
-    let write = c.write-frame.ensures in
-    let wrote = part_written G n bytes vote s (is_ok c.write-frame.result) new c.frame-size-size.ensures (subst (λ m. n * m + m ≤ length bytes) (sym c.frame-size-size.ensures) (frame_inside G bytes n room)) write.test write.after write.reads-back in
+    let new = c.write_frame.new.out in
+    let write = c.write_frame.ensures in
+    let wrote = part_written G n bytes vote s (is_ok c.write_frame.result) new c.frame_size-size.ensures (subst (λ m. n * m + m ≤ length bytes) (sym c.frame_size-size.ensures) (frame_inside G bytes n room)) write.test write.after write.reads-back in
     let after = put_mid (n * s) ((n * s + s) - n * s) bytes new in
     record {
       value = sent_there Frame (frame_votes G count bytes) (frame_capacity G bytes) (omega (arith, counted, room));

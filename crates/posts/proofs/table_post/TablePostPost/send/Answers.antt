@@ -29,8 +29,8 @@ returns g c =
     let n = c.count-count.result in
     let counted = c.count-count.ensures in
     let room : n < table_capacity table = omega (arith, c.capacity.ensures, c.if-count-capacity.false) in
-    let after = c.put-record.new.table in
-    let wrote = c.put-record.ensures in
+    let after = c.put_record.new.table in
+    let wrote = c.put_record.ensures in
     record {
       value = sent_there Table (table_votes count table) (table_capacity table) (omega (arith, counted, room));
       after = table_votes_written count table n vote counted after wrote room;

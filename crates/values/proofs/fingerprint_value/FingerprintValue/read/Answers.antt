@@ -10,6 +10,6 @@ pub returns : goal.returns
 returns c =
     let bs = c.args.from.now in
     let long : length bs ≡ 32 = omega arith in
-    let words : (c.word-at.result ∷ c.word-at-2.result ∷ c.word-at-3.result ∷ c.word-at-4.result ∷ []) ≡ words_in 4 bs =
-    rw (c.word-at.ensures, c.word-at-2.ensures, c.word-at-3.ensures, c.word-at-4.ensures) (words_from_fields bs long (octets_from_fits bs c.type-inv.from)) in
+    let words : (c.word_at.result ∷ c.word_at-2.result ∷ c.word_at-3.result ∷ c.word_at-4.result ∷ []) ≡ words_in 4 bs =
+    rw (c.word_at.ensures, c.word_at-2.ensures, c.word_at-3.ensures, c.word_at-4.ensures) (words_from_fields bs long (octets_from_fits bs c.type_inv.from)) in
     ap Some (fingerprint_from_words _ (fingerprint_parsed bs) words) ∙ sym (cond-true _ _ _ (eq-eqb (length bs) 32 long))

@@ -10,9 +10,9 @@ pub loop-k-preserved : goal.loop-k-preserved
 loop-k-preserved c =
     let k = c.loop-k.k in
     let words = c.args.self.now.words in
-    let part = c.copy-from-slice.new.self in
+    let part = c.copy_from_slice.new.self in
     let more : k < length words = omega (arith, c.args.self.now.four) in
-    let written : part ≡ big 8 (get_or words k 0) = rw div-one (c.copy-from-slice.ensures.after ∙ c.to-be-bytes-word.ensures) in
+    let written : part ≡ big 8 (get_or words k 0) = rw div-one (c.copy_from_slice.ensures.after ∙ c.to_be_bytes-word.ensures) in
     let end : 8 * (k + 1) ≡ 8 * k + length part = omega (arith, ap length written) in
     take-put_mid (8 * k) ((8 * k + 8) - 8 * k) c.loop-k.out part (8 * (k + 1)) end (omega arith)
     ∙ ap₂ (λ xs ys. xs ++ ys) c.loop-k.invariant written

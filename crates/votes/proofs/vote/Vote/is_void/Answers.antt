@@ -4,17 +4,17 @@ use Rattle.votes.proofs.Voids.{void_unnamed, void-in_range, void_out_of_range}
 use Rattle.votes.proofs.vote.Vote.is_void.Goals as goal
 use Rattle.votes.proofs.vote.Vote.is_void.Goals.{then-in-range, else-in-range}
 
-pub returns-after-in-range : goal.returns-after-in-range
-returns-after-in-range g c =
+pub returns-after-in_range : goal.returns-after-in_range
+returns-after-in_range g c =
     let G = g.row.V-Value in
     let v = c.args.self.now in
     let n = c.args.houses in
     let named = c.in-Some.ensures in
-    elim c.if-in-range.branch [
-      | then-in-range w ↦
-          ap not w.result-is ∙ void-in_range G n v _ named _ w.shape.ensures _ _ c.in_range.ensures w.if-in-range.true w.fits.ensures
-      | else-in-range w ↦
-          ap not w.result-is ∙ void_out_of_range G n v _ named _ c.in_range.ensures w.if-in-range.false
+    elim c.if-in_range.branch [
+      | then-in_range w ↦
+          ap not w.result-is ∙ void-in_range G n v _ named _ w.shape.ensures _ _ c.in_range.ensures w.if-in_range.true w.fits.ensures
+      | else-in_range w ↦
+          ap not w.result-is ∙ void_out_of_range G n v _ named _ c.in_range.ensures w.if-in_range.false
     ]
 
 pub returns-in-None : goal.returns-in-None
