@@ -98,15 +98,15 @@ pub record Written {V : Type 0} (G : Ghosts V) (n : ℕ) (bytes : List ℕ) (v :
 
 -- the part for frame n was handed to the frame writer
 pub part_written : {V : Type 0} (G : Ghosts V) (n : ℕ) (bytes : List ℕ) (v : Vote V) (s : ℕ) (done : Bool) (new : List ℕ) → s ≡ frame_size G → n * s + s ≤ length bytes → let part = take ((n * s + s) - n * s) (drop (n * s) bytes) in done ≡ eqb (length part) (frame_size G) → new ≡ cond done (frame G v) part → (done ≡ true → ReadsBack G v new) → Written G n bytes v new (put_mid (n * s) ((n * s + s) - n * s) bytes new)
-part_written G n bytes v s done new size inside tested after reads-back =
+part_written G n bytes v s done new size inside tested after reads_back =
     let part = take ((n * s + s) - n * s) (drop (n * s) bytes) in
     let long : length part ≡ s = length-take ((n * s + s) - n * s) (drop (n * s) bytes) ∙ omega (arith, inside, length-drop (n * s) bytes) in
     let ok : done ≡ true = tested ∙ eq-eqb _ _ (long ∙ size) in
     let past : drop ((n * s + s) - n * s) (drop (n * s) bytes) ≡ drop (n * s + s) bytes = Post-is (n * s) (n * s + s) bytes (omega arith) in
     record {
       is_frame = after ∙ cond-true _ _ _ ok;
-      wide = (readable_parts G new (reads-back ok).0).long;
-      back = (reads-back ok).1;
+      wide = (readable_parts G new (reads_back ok).0).long;
+      back = (reads_back ok).1;
       put = ap (λ rest. take (n * s) bytes ++ (new ++ rest)) past ∙ ap (λ k. take (n * k) bytes ++ (new ++ drop (n * k + k) bytes)) size;
     }
 

@@ -6,14 +6,14 @@ use Rattle.posts.proofs.Calls.{fetched_vote, fetched_refused}
 use Rattle.pagebook.proofs.answers.votes_text.Goals as goal
 
 pub loop-place-init : goal.loop-place-init
-loop-place-init g c = listed_none g.row.V-Value g.V.TextValue (g.P.Post.votes c.args.post.now) _ c.in_ok-text.ensures.ok
+loop-place-init g c = listed_none g.V.Value g.V.TextValue (g.P.Post.votes c.args.post.now) _ c.in_ok-text.ensures.ok
 
 pub returns-in_default : goal.returns-in_default
 returns-in_default g c = absurd (fetched_refused g.P.Post.layer (g.P.Post.votes c.args.post.now) c.loop-place.place-counter c.in_default.field-0 (omega (arith, c.loop-place-test.true, c.count-place-end.ensures)) c.in_default.ensures)
 
 pub loop-place-preserved : goal.loop-place-preserved
 loop-place-preserved g c =
-    let G = g.row.V-Value in
+    let G = g.V.Value in
     let T = g.V.TextValue in
     let votes = g.P.Post.votes c.args.post.now in
     let k = c.loop-place.place-counter in
@@ -24,4 +24,4 @@ loop-place-preserved g c =
     listed_next G T votes k v (string_bytes c.loop-place.text) (string_bytes c.push_str.new.self) line (omega (arith, c.loop-place-test.true, c.count-place-end.ensures)) there c.loop-place.invariant line-is c.in_ok-push_str.ensures.bytes
 
 pub returns : goal.returns
-returns g c = listed_all g.row.V-Value g.V.TextValue (g.P.Post.votes c.args.post.now) c.loop-place.place-counter _ (omega (arith, c.loop-place-test.false, c.count-place-end.ensures)) c.loop-place.invariant
+returns g c = listed_all g.V.Value g.V.TextValue (g.P.Post.votes c.args.post.now) c.loop-place.place-counter _ (omega (arith, c.loop-place-test.false, c.count-place-end.ensures)) c.loop-place.invariant

@@ -5,4 +5,4 @@ use Rattle.pagebook.proofs.answers.votes_text.Given as goal
 
 -- the votes so far are shown
 abbrev pub invariant-loop-place : goal.invariant-loop-place
-invariant-loop-place g l = string_bytes l.text ≡ votes_answer g.row.V-Value g.V.TextValue (take l.place-counter (g.P.Post.votes l.post))
+invariant-loop-place g l = string_bytes l.text ≡ votes_answer g.V.Value g.V.TextValue (take l.place-counter (g.P.Post.votes l.post))

@@ -8,4 +8,4 @@ pub loop-preserved : goal.loop-preserved
 loop-preserved g c =
     c.in_ok-push.ensures.items
     ∙ ap₂ (λ table vote. table ++ vote ∷ []) c.loop.invariant c.empty.ensures
-    ∙ replicate_more c.loop.counter (empty_vote g.row.V-Value)
+    ∙ replicate_more c.loop.counter (empty_vote g.V.Value)

@@ -5,4 +5,4 @@ use Rattle.pagebook.proofs.memory.empty_table.Given as goal
 
 -- as many records as turns
 abbrev pub invariant-loop : goal.invariant-loop
-invariant-loop g l = vec_items l.table ≡ replicate l.counter (empty_vote g.row.V-Value)
+invariant-loop g l = vec_items l.table ≡ replicate l.counter (empty_vote g.V.Value)

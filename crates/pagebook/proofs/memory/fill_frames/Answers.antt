@@ -9,7 +9,7 @@ use Rattle.pagebook.proofs.memory.fill_frames.Goals as goal
 
 pub returns : goal.returns
 returns g c =
-    let G = g.row.V-Value in
+    let G = g.V.Value in
     let bytes = c.args.bytes.now in
     let place = c.args.place in
     let vote = c.args.vote.now in

@@ -8,7 +8,7 @@ use Rattle.pagebook.proofs.memory.send_to_frames.Goals as goal
 
 pub returns : goal.returns
 returns g c =
-    let G = g.row.V-Value in
+    let G = g.V.Value in
     let bytes = c.args.bytes.now in
     let vote = c.args.vote.now in
     let new = c.new-post.ensures in

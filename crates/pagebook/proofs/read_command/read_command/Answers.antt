@@ -18,7 +18,7 @@ returns-in-Some g c =
     let ws = c.args.words.now in
     let some : 0 < length ws = search rules in
     let named = at_word ws (λ w. c.named.result ≡ verb_named w) 0 _ some c.named.ensures in
-    IfOk-weaker _ _ _ (λ o reads. when_yes _ _ _ (some_words ws some) (given _ _ _ _ (sym named ∙ c.in-Some.is) (subst (λ ys. Reads g.row.V-Value g.V.TextValue c.in-Some.verb ys o) (after_first ws) reads))) c.read_rest.ensures
+    IfOk-weaker _ _ _ (λ o reads. when_yes _ _ _ (some_words ws some) (given _ _ _ _ (sym named ∙ c.in-Some.is) (subst (λ ys. Reads g.V.Value g.V.TextValue c.in-Some.verb ys o) (after_first ws) reads))) c.read_rest.ensures
 
 pub returns-in-None : goal.returns-in-None
 unfolding CommandReads

@@ -25,7 +25,7 @@ returns-in-Some-2 g c =
     let ws = c.args.rest.now in
     let some : 0 < length ws = search rules in
     let place = number_at ws c.number.result 0 _ some c.number.ensures in
-    let vote = subst (λ ys. VoteReads g.row.V-Value g.V.TextValue ys c.in_ok-vote.field-0) (after_first ws) c.in_ok-vote.ensures in
+    let vote = subst (λ ys. VoteReads g.V.Value g.V.TextValue ys c.in_ok-vote.field-0) (after_first ws) c.in_ok-vote.ensures in
     when_yes _ _ _ (some_words ws some) (c.number.result, place, given _ _ _ _ c.in-Some.is (c.in_ok-vote.field-0, vote, given _ _ _ _ c.in-Some-2.is refl))
 
 pub returns-in-None : goal.returns-in-None
@@ -34,5 +34,5 @@ returns-in-None g c =
     let ws = c.args.rest.now in
     let some : 0 < length ws = search rules in
     let place = number_at ws c.number.result 0 _ some c.number.ensures in
-    let vote = subst (λ ys. VoteReads g.row.V-Value g.V.TextValue ys c.in_ok-vote.field-0) (after_first ws) c.in_ok-vote.ensures in
+    let vote = subst (λ ys. VoteReads g.V.Value g.V.TextValue ys c.in_ok-vote.field-0) (after_first ws) c.in_ok-vote.ensures in
     when_yes _ _ _ (some_words ws some) (c.number.result, place, given _ _ _ _ c.in-Some.is (c.in_ok-vote.field-0, vote, missing _ _ _ c.in-None.is refl))

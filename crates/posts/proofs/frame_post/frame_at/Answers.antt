@@ -7,5 +7,5 @@ pub slice_bounds-result-end : goal.slice_bounds-result-end
 slice_bounds-result-end g c =
     let k = c.args.place in
     let bytes = c.args.bytes.now in
-    let inside : k * c.frame_size-size.result + c.frame_size-size.result ≤ length bytes = subst (λ s. k * s + s ≤ length bytes) (sym c.frame_size-size.ensures) (frame_inside g.row.V-Value bytes k c.requires) in
+    let inside : k * c.frame_size-size.result + c.frame_size-size.result ≤ length bytes = subst (λ s. k * s + s ≤ length bytes) (sym c.frame_size-size.ensures) (frame_inside g.V.Value bytes k c.requires) in
     search rules

@@ -7,11 +7,11 @@ use Rattle.text.proofs.Values.{reads_blank, reads_other}
 use Rattle.text.proofs.value_text.read_value.Goals as goal
 
 pub returns-then-eq : goal.returns-then-eq
-returns-then-eq g c = reads_blank g.row.V-Value g.V.TextValue c.args.word.now _ (c.eq.ensures.0 c.if-eq.true) c.blank.ensures
+returns-then-eq g c = reads_blank g.V.Value g.V.TextValue c.args.word.now _ (c.eq.ensures.0 c.if-eq.true) c.blank.ensures
 
 pub returns-else-eq : goal.returns-else-eq
 returns-else-eq g c =
-    let G = g.row.V-Value in
+    let G = g.V.Value in
     let T = g.V.TextValue in
     let word = c.args.word.now in
     let other : word ≡ codes "blank" → ⊥ = not_from_Decides c.eq.result c.eq.ensures c.if-eq.false in

@@ -42,7 +42,7 @@ returns-in_default-number-6 g c = λ v w.
 pub returns-in_default-2 : goal.returns-in_default-2
 returns-in_default-2 g c = λ v w.
     let within : 6 < length c.args.words.now = search rules in
-    value_refused c.args.words.now 6 _ within g.row.V-Value g.V.TextValue _ c.in_ok-value.ensures g.met.V.TextValue.single c.in_default-2.is v.value w.value
+    value_refused c.args.words.now 6 _ within g.V.Value g.V.TextValue _ c.in_ok-value.ensures g.met.V.TextValue.single c.in_default-2.is v.value w.value
 
 pub returns : goal.returns
 returns g c =
@@ -56,5 +56,5 @@ returns g c =
       house = number_read ws 3 _ (omega arith) 255 _ c.in-Some-number-3.ensures;
       cp = number_read ws 4 _ (omega arith) 255 _ c.in-Some-number-4.ensures;
       val = number_read ws 5 _ (omega arith) 255 _ c.in-Some-number-5.ensures;
-      value = value_read ws 6 _ (omega arith) g.row.V-Value g.V.TextValue _ c.in_ok-value.ensures _ c.in-Some-2.is;
+      value = value_read ws 6 _ (omega arith) g.V.Value g.V.TextValue _ c.in_ok-value.ensures _ c.in-Some-2.is;
     }

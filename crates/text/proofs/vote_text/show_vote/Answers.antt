@@ -11,4 +11,4 @@ returns g c =
     let v = c.args.vote in
     let words = λ (t : List ℕ). join_with_byte 32 (decimal v.kind ∷ decimal v.page ∷ decimal v.round ∷ decimal v.house ∷ decimal v.cp ∷ decimal v.val ∷ t ∷ []) in
     let shown = c.in_ok-value.ensures.made in
-    IfOk-weaker c.format.result _ (λ s. string_bytes s ≡ vote_text g.row.V-Value g.V.TextValue v) (λ s e. simp append_assoc at e ∙ ap words shown) c.format.ensures.ok
+    IfOk-weaker c.format.result _ (λ s. string_bytes s ≡ vote_text g.V.Value g.V.TextValue v) (λ s e. simp append_assoc at e ∙ ap words shown) c.format.ensures.ok

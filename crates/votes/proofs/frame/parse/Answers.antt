@@ -10,9 +10,9 @@ returns-in_default g c = sym (cond-false _ _ _ c.in_default.ensures)
 pub returns-in_err-value : goal.returns-in_err-value
 returns-in_err-value g c =
     let split = c.in-Some.ensures in
-    absurd (parse_never_refuses g.row.V-Value c.args.bytes.now c.in-Some.value.now split.0 split.2 (g.row.V-Value.parsed c.in-Some.value.now) c.in_err-value.ensures)
+    absurd (parse_never_refuses g.V.Value c.args.bytes.now c.in-Some.value.now split.0 split.2 (g.V.Value.parsed c.in-Some.value.now) c.in_err-value.ensures)
 
 pub returns : goal.returns
 returns g c =
     let split = c.in-Some.ensures in
-    parse_answers g.row.V-Value c.args.bytes.now c.in-Some.value.now split.0 split.2 c.in_ok-value.value _ split.1 refl c.in_ok-value.ensures
+    parse_answers g.V.Value c.args.bytes.now c.in-Some.value.now split.0 split.2 c.in_ok-value.value _ split.1 refl c.in_ok-value.ensures

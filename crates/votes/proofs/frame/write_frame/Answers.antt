@@ -7,7 +7,7 @@ use Rattle.votes.proofs.frame.write_frame.Goals as goal
 
 pub returns : goal.returns
 returns g c =
-    let G = g.row.V-Value in
+    let G = g.V.Value in
     let v = c.args.vote in
     let laws = g.met.V.Value in
     let kind : Fits w8 v.kind = search rules in
@@ -21,5 +21,5 @@ returns g c =
     record {
       test = sym (eq-eqb _ _ (omega arith));
       after = after;
-      reads-back = λ _. subst (ReadsBack G v) (sym after) (frame_reads_back G v wide laws.most (laws.long v.value) (laws.reading v.value));
+      reads_back = λ _. subst (ReadsBack G v) (sym after) (frame_reads_back G v wide laws.most (laws.long v.value) (laws.reading v.value));
     }

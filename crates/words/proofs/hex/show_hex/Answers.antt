@@ -24,4 +24,4 @@ pub returns : goal.returns
 returns c =
     let bs = c.args.bytes.now in
     let made = c.loop-b.invariant ∙ ap hex_text (take_all c.loop-b.b-index bs c.loop-b-test.false) in
-    record { made = made; reads-back = ap hex_bytes made ∙ hex_reads_back bs (octets_from_fits bs c.type_inv.bytes) }
+    record { made = made; reads_back = ap hex_bytes made ∙ hex_reads_back bs (octets_from_fits bs c.type_inv.bytes) }

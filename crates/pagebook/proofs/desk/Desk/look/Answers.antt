@@ -15,8 +15,8 @@ returns-in_ok-look_at_table g c =
     let held : before.held ≡ records table = ap held_in c.in-Table.is ∙ ap records (sym c.as_mut_slice.ensures.value) in
     let long : length after ≡ c.in-Table.table.len = search rules in
     let same = ap records (with_items_is c.in-Table.table after long ∙ c.look_at_table.ensures.same) ∙ sym held in
-    let told = shown_table g.row.V-Value g.V.TextValue c.args.look before text table held c.in_ok-look_at_table.ensures.value in
-    looked g.row.V-Value g.V.TextValue c.args.look before text (records (vec_items (with_items c.in-Table.table after))) told same
+    let told = shown_table g.V.Value g.V.TextValue c.args.look before text table held c.in_ok-look_at_table.ensures.value in
+    looked g.V.Value g.V.TextValue c.args.look before text (records (vec_items (with_items c.in-Table.table after))) told same
 
 pub returns-in_ok-look_at_frames : goal.returns-in_ok-look_at_frames
 returns-in_ok-look_at_frames g c =
@@ -27,5 +27,5 @@ returns-in_ok-look_at_frames g c =
     let held : before.held ≡ octets bytes = ap held_in c.in-Frames.is ∙ ap octets (sym c.as_mut_slice-in-Frames.ensures.value) in
     let long : length after ≡ c.in-Frames.bytes.len = search rules in
     let same = ap octets (with_items_is c.in-Frames.bytes after long ∙ c.look_at_frames.ensures.same) ∙ sym held in
-    let told = shown_frames g.row.V-Value g.V.TextValue c.args.look before text bytes held c.in_ok-look_at_frames.ensures.value in
-    looked g.row.V-Value g.V.TextValue c.args.look before text (octets (vec_items (with_items c.in-Frames.bytes after))) told same
+    let told = shown_frames g.V.Value g.V.TextValue c.args.look before text bytes held c.in_ok-look_at_frames.ensures.value in
+    looked g.V.Value g.V.TextValue c.args.look before text (octets (vec_items (with_items c.in-Frames.bytes after))) told same

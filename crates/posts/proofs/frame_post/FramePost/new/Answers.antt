@@ -7,10 +7,10 @@ use Rattle.posts.proofs.frame_post.FramePost.new.Goals as goal
 pub returns : goal.returns
 returns g c =
     let bytes = c.args.bytes.now in
-    let count : c.min-cut.result ≡ min c.args.count (frame_capacity g.row.V-Value bytes) = omega (arith, c.min-cut.ensures, c.capacity_of.ensures) in
+    let count : c.min-cut.result ≡ min c.args.count (frame_capacity g.V.Value bytes) = omega (arith, c.min-cut.ensures, c.capacity_of.ensures) in
     record {
       count = count;
-      votes = frame_votes_cut g.row.V-Value c.args.count bytes c.min-cut.result count;
+      votes = frame_votes_cut g.V.Value c.args.count bytes c.min-cut.result count;
       same = refl;
       lent = refl;
     }

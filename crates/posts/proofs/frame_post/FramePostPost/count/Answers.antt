@@ -4,4 +4,4 @@ use Rattle.posts.proofs.Standing.{frame_count}
 use Rattle.posts.proofs.frame_post.FramePostPost.count.Goals as goal
 
 pub returns : goal.returns
-returns g c = omega (arith, c.min.ensures, c.capacity.ensures, frame_count g.row.V-Value c.args.self.now.count c.args.self.now.bytes.now)
+returns g c = omega (arith, c.min.ensures, c.capacity.ensures, frame_count g.V.Value c.args.self.now.count c.args.self.now.bytes.now)

@@ -8,11 +8,11 @@ use Rattle.votes.specs.Frames.{stands_for}
 use Rattle.posts.proofs.frame_post.FramePostPost.fetch.Goals as goal
 
 pub frame_at-requires : goal.frame_at-requires
-frame_at-requires g c = omega (arith, c.if-place-count.true, c.count.ensures, frame_count g.row.V-Value c.args.self.now.count c.args.self.now.bytes.now)
+frame_at-requires g c = omega (arith, c.if-place-count.true, c.count.ensures, frame_count g.V.Value c.args.self.now.count c.args.self.now.bytes.now)
 
 pub returns-then-place-count : goal.returns-then-place-count
 returns-then-place-count g c =
-    let G = g.row.V-Value in
+    let G = g.V.Value in
     let count = c.args.self.now.count in
     let bytes = c.args.self.now.bytes.now in
     let there = frame-nth G count bytes c.args.place (omega (arith, c.if-place-count.true, c.count.ensures)) in

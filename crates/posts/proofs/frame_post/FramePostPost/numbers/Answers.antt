@@ -9,11 +9,11 @@ use Rattle.votes.specs.Votes.{numbers_of}
 use Rattle.posts.proofs.frame_post.FramePostPost.numbers.Goals as goal
 
 pub frame_at-requires : goal.frame_at-requires
-frame_at-requires g c = omega (arith, c.if-place-count.true, c.count.ensures, frame_count g.row.V-Value c.args.self.now.count c.args.self.now.bytes.now)
+frame_at-requires g c = omega (arith, c.if-place-count.true, c.count.ensures, frame_count g.V.Value c.args.self.now.count c.args.self.now.bytes.now)
 
 pub returns-then-place-count : goal.returns-then-place-count
 returns-then-place-count g c =
-    let G = g.row.V-Value in
+    let G = g.V.Value in
     let place = c.args.place in
     let count = c.args.self.now.count in
     let bytes = c.args.self.now.bytes.now in
@@ -24,6 +24,6 @@ returns-then-place-count g c =
 
 pub returns-else-place-count : goal.returns-else-place-count
 returns-else-place-count g c =
-    let votes = frame_votes g.row.V-Value c.args.self.now.count c.args.self.now.bytes.now in
+    let votes = frame_votes g.V.Value c.args.self.now.count c.args.self.now.bytes.now in
     let place = c.args.place in
     numbers_alike Frame votes place (Err (record { layer = Frame; place = place })) (fetched_none Frame votes place (omega (arith, c.if-place-count.false, c.count.ensures)))

@@ -9,7 +9,7 @@ use Rattle.posts.proofs.frame_post.FramePostPost.send.Goals as goal
 
 pub returns-then-count-capacity : goal.returns-then-count-capacity
 returns-then-count-capacity g c =
-    let G = g.row.V-Value in
+    let G = g.V.Value in
     let count = c.args.self.now.count in
     let bytes = c.args.self.now.bytes.now in
     let votes = frame_votes G count bytes in
@@ -28,13 +28,13 @@ slice_bounds-write_frame-end g c =
     let bytes = c.args.self.now.bytes.now in
     let n = c.count-count.result in
     let s = c.frame_size-size.result in
-    let room : n < frame_capacity g.row.V-Value bytes = omega (arith, c.capacity.ensures, c.if-count-capacity.false) in
-    let inside : n * s + s ≤ length bytes = subst (λ m. n * m + m ≤ length bytes) (sym c.frame_size-size.ensures) (frame_inside g.row.V-Value bytes n room) in
+    let room : n < frame_capacity g.V.Value bytes = omega (arith, c.capacity.ensures, c.if-count-capacity.false) in
+    let inside : n * s + s ≤ length bytes = subst (λ m. n * m + m ≤ length bytes) (sym c.frame_size-size.ensures) (frame_inside g.V.Value bytes n room) in
     search rules
 
 pub returns : goal.returns
 returns g c =
-    let G = g.row.V-Value in
+    let G = g.V.Value in
     let count = c.args.self.now.count in
     let bytes = c.args.self.now.bytes.now in
     let vote = c.args.vote.now in
@@ -44,7 +44,7 @@ returns g c =
     let room : n < frame_capacity G bytes = omega (arith, c.capacity.ensures, c.if-count-capacity.false) in
     let new = c.write_frame.new.out in
     let write = c.write_frame.ensures in
-    let wrote = part_written G n bytes vote s (is_ok c.write_frame.result) new c.frame_size-size.ensures (subst (λ m. n * m + m ≤ length bytes) (sym c.frame_size-size.ensures) (frame_inside G bytes n room)) write.test write.after write.reads-back in
+    let wrote = part_written G n bytes vote s (is_ok c.write_frame.result) new c.frame_size-size.ensures (subst (λ m. n * m + m ≤ length bytes) (sym c.frame_size-size.ensures) (frame_inside G bytes n room)) write.test write.after write.reads_back in
     let after = put_mid (n * s) ((n * s + s) - n * s) bytes new in
     record {
       value = sent_there Frame (frame_votes G count bytes) (frame_capacity G bytes) (omega (arith, counted, room));

@@ -2,11 +2,11 @@
 use Rattle.std.proofs.Common.{not, ap, ◌∙◌}
 use Rattle.votes.proofs.Voids.{void_unnamed, void-in_range, void_out_of_range}
 use Rattle.votes.proofs.vote.Vote.is_void.Goals as goal
-use Rattle.votes.proofs.vote.Vote.is_void.Goals.{then-in-range, else-in-range}
+use Rattle.votes.proofs.vote.Vote.is_void.Goals.{then-in_range, else-in_range}
 
 pub returns-after-in_range : goal.returns-after-in_range
 returns-after-in_range g c =
-    let G = g.row.V-Value in
+    let G = g.V.Value in
     let v = c.args.self.now in
     let n = c.args.houses in
     let named = c.in-Some.ensures in
@@ -18,4 +18,4 @@ returns-after-in_range g c =
     ]
 
 pub returns-in-None : goal.returns-in-None
-returns-in-None g c = void_unnamed g.row.V-Value c.args.houses c.args.self.now c.in-None.ensures
+returns-in-None g c = void_unnamed g.V.Value c.args.houses c.args.self.now c.in-None.ensures
