@@ -28,7 +28,7 @@ pub(crate) fn frame_text<V: TextValue>(heap: Global, vote: Vote<V>) -> Result<St
 
 // The vote in a frame, or that the frame is unreadable.
 pub(crate) fn read_text<V: TextValue>(heap: Global, bytes: &[u8]) -> Result<String, AllocError>
-    ensures { IfOk result (λ s. string_bytes s ≡ read_answer V.Value V.TextValue bytes.now) }
+    ensures { IfOk result (λ s. string_bytes s ≡ read_answer V.Value V.TextValue.own bytes.now) }
 {
     let vote = read_frame::<V>(bytes);
     if is_readable::<V>(bytes) {
@@ -67,7 +67,7 @@ pub(crate) fn fetched_text<V: TextValue>(
     heap: Global,
     fetched: Result<Vote<V>, Fault>,
 ) -> Result<String, AllocError>
-    ensures { IfOk result (λ s. string_bytes s ≡ fetched_answer V.Value V.TextValue fetched) }
+    ensures { IfOk result (λ s. string_bytes s ≡ fetched_answer V.Value V.TextValue.own fetched) }
 {
     match fetched {
         Ok(vote) => {
@@ -83,7 +83,7 @@ pub(crate) fn votes_text<V: TextValue, P: Post<Value = V>>(
     heap: Global,
     post: &P,
 ) -> Result<String, AllocError>
-    ensures { IfOk result (λ s. string_bytes s ≡ votes_answer V.Value V.TextValue (P.Post.votes post.now)) }
+    ensures { IfOk result (λ s. string_bytes s ≡ votes_answer V.Value V.TextValue.own (P.Post.votes post.now)) }
 {
     let mut text = String::from_str(heap, "0")?;
     for place in 0..post.count() {
@@ -103,7 +103,7 @@ pub(crate) fn look_text<V: TextValue, P: Post<Value = V>>(
     post: &P,
     look: Look,
 ) -> Result<String, AllocError>
-    ensures { IfOk result (λ s. string_bytes s ≡ look_answer V.Value V.TextValue P.Post.layer (P.Post.votes post.now) look) }
+    ensures { IfOk result (λ s. string_bytes s ≡ look_answer V.Value V.TextValue.own P.Post.layer (P.Post.votes post.now) look) }
 {
     match look {
         Look::Fetch(place) => fetched_text(heap, post.fetch(place)),

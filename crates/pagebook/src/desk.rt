@@ -51,7 +51,7 @@ impl<V: TextValue> Desk<V> {
         records: usize,
         count: usize,
     ) -> Result<Option<String>, AllocError>
-        ensures { IfOk result (λ answer. Replied (table_reply V.Value V.TextValue records count (view self.old)) answer (view self.old) (view self.new)) }
+        ensures { IfOk result (λ answer. Replied (table_reply V.Value V.TextValue.own records count (view self.old)) answer (view self.old) (view self.new)) }
     {
         let Memory::Absent = &self.memory else {
             return Ok(None);
@@ -69,7 +69,7 @@ impl<V: TextValue> Desk<V> {
         size: usize,
         count: usize,
     ) -> Result<Option<String>, AllocError>
-        ensures { IfOk result (λ answer. Replied (frames_reply V.Value V.TextValue size count (view self.old)) answer (view self.old) (view self.new)) }
+        ensures { IfOk result (λ answer. Replied (frames_reply V.Value V.TextValue.own size count (view self.old)) answer (view self.old) (view self.new)) }
     {
         let Memory::Absent = &self.memory else {
             return Ok(None);
@@ -82,7 +82,7 @@ impl<V: TextValue> Desk<V> {
     }
 
     fn send(&mut self, heap: Global, vote: Vote<V>) -> Result<Option<String>, AllocError>
-        ensures { IfOk result (λ answer. Replied (send_reply V.Value V.TextValue vote self.old.count (held_in self.old.memory)) answer (view self.old) (view self.new)) }
+        ensures { IfOk result (λ answer. Replied (send_reply V.Value V.TextValue.own vote self.old.count (held_in self.old.memory)) answer (view self.old) (view self.new)) }
     {
         match &mut self.memory {
             Memory::Absent => Ok(None),
@@ -100,7 +100,7 @@ impl<V: TextValue> Desk<V> {
     }
 
     fn look(&mut self, heap: Global, look: Look) -> Result<Option<String>, AllocError>
-        ensures { IfOk result (λ answer. Replied (look_reply V.Value V.TextValue look (view self.old)) answer (view self.old) (view self.new)) }
+        ensures { IfOk result (λ answer. Replied (look_reply V.Value V.TextValue.own look (view self.old)) answer (view self.old) (view self.new)) }
     {
         let count = self.count;
         match &mut self.memory {
@@ -122,7 +122,7 @@ impl<V: TextValue> Desk<V> {
         place: usize,
         vote: Vote<V>,
     ) -> Result<Option<String>, AllocError>
-        ensures { IfOk result (λ answer. Replied (prepare (filled V.Value V.TextValue place vote (held_in self.old.memory)) (view self.old)) answer (view self.old) (view self.new)) }
+        ensures { IfOk result (λ answer. Replied (prepare (filled V.Value V.TextValue.own place vote (held_in self.old.memory)) (view self.old)) answer (view self.old) (view self.new)) }
     {
         if self.called {
             return Ok(None);
@@ -166,7 +166,7 @@ impl<V: TextValue> Desk<V> {
         heap: Global,
         command: Command<V>,
     ) -> Result<Option<String>, AllocError>
-        ensures { IfOk result (λ answer. Replied (reply V.Value V.TextValue command (view self.old)) answer (view self.old) (view self.new)) }
+        ensures { IfOk result (λ answer. Replied (reply V.Value V.TextValue.own command (view self.old)) answer (view self.old) (view self.new)) }
     {
         match command {
             Command::Frame(vote) => Ok(Some(frame_text(heap, vote)?)),

@@ -106,7 +106,7 @@ pub(crate) fn look_at_table<V: TextValue>(
     count: usize,
     look: Look,
 ) -> Result<String, AllocError>
-    ensures value { IfOk result (λ s. string_bytes s ≡ look_answer V.Value V.TextValue table_layer (table_votes count table.old) look) }
+    ensures value { IfOk result (λ s. string_bytes s ≡ look_answer V.Value V.TextValue.own table_layer (table_votes count table.old) look) }
     ensures same { table.new ≡ table.old }
 {
     let post = TablePost::new(table, count);
@@ -119,7 +119,7 @@ pub(crate) fn look_at_frames<V: TextValue>(
     count: usize,
     look: Look,
 ) -> Result<String, AllocError>
-    ensures value { IfOk result (λ s. string_bytes s ≡ look_answer V.Value V.TextValue frame_layer (frame_votes V.Value count bytes.old) look) }
+    ensures value { IfOk result (λ s. string_bytes s ≡ look_answer V.Value V.TextValue.own frame_layer (frame_votes V.Value count bytes.old) look) }
     ensures same { bytes.new ≡ bytes.old }
 {
     let post = FramePost::<V>::new(bytes, count);

@@ -105,7 +105,7 @@ fn read_look<V>(rest: &[&str], look: Look) -> Option<Command<V>>
 }
 
 fn read_fill<V: TextValue>(heap: Global, rest: &[&str]) -> Result<Option<Command<V>>, AllocError>
-    ensures { IfOk result (λ o. FillWords V.Value V.TextValue (map (λ w. w.now) rest.now) o) }
+    ensures { IfOk result (λ o. FillWords V.Value V.TextValue.own (map (λ w. w.now) rest.now) o) }
 {
     let [place, vote @ ..] = rest else {
         return Ok(None);
@@ -125,7 +125,7 @@ fn read_rest<V: TextValue>(
     verb: Verb,
     rest: &[&str],
 ) -> Result<Option<Command<V>>, AllocError>
-    ensures { IfOk result (λ o. Reads V.Value V.TextValue verb (map (λ w. w.now) rest.now) o) }
+    ensures { IfOk result (λ o. Reads V.Value V.TextValue.own verb (map (λ w. w.now) rest.now) o) }
 {
     match verb {
         Verb::Frame => match read_vote(heap, rest)? {
@@ -151,7 +151,7 @@ pub(crate) fn read_command<V: TextValue>(
     heap: Global,
     words: &[&str],
 ) -> Result<Option<Command<V>>, AllocError>
-    ensures { IfOk result (λ o. CommandReads V.Value V.TextValue (map (λ w. w.now) words.now) o) }
+    ensures { IfOk result (λ o. CommandReads V.Value V.TextValue.own (map (λ w. w.now) words.now) o) }
 {
     let [first, rest @ ..] = words else {
         return Ok(None);

@@ -46,7 +46,7 @@ fn is_ignored(line: &[u8]) -> bool
 
 // What a line prints once the kind of value is named: itself, an arrow and its answer.
 fn answer<V: TextValue>(heap: Global, desk: &mut Desk<V>, line: &str) -> Result<Outcome, AllocError>
-    ensures { IfOk result (λ outcome. Answers V.Value V.TextValue line.now outcome (view desk.old) (view desk.new)) }
+    ensures { IfOk result (λ outcome. Answers V.Value V.TextValue.own line.now outcome (view desk.old) (view desk.new)) }
 {
     let words = words_of(heap, line)?;
     let Some(command) = read_command(heap, words.as_slice())? else {

@@ -1,21 +1,26 @@
 -- The text of a vote. Assumes nothing.
-use Rattle.std.specs.Prelude.{◌≡◌, ℕ, ◌≤◌, List, [], ◌∷◌, length, Some, decimal, Option, MatchOption, slice_index_or}
-use Rattle.std.specs.List.{join_with_byte}
+use Rattle.std.specs.Prelude.{◌≡◌, ℕ, ◌≤◌, List, [], ◌∷◌, ◌++◌, length, Some, decimal, Option, MatchOption, slice_index_or}
 use Rattle.std.specs.Str.Parse.{IsNumeral, digits_value as value}
 use Rattle.text.specs.Values.{value_text, ValueReads}
 use Rattle.text.specs.declared.text_value.TextValue.{Ghosts as Texts}
 use Rattle.values.specs.declared.value.Value.{Ghosts}
 use Rattle.votes.specs.declared.vote.Vote.{Vote}
 
+-- words with a space between two of them
+abbrev pub spaced : List (List ℕ) → List ℕ
+spaced [] = []
+spaced (w ∷ []) = w
+spaced (w ∷ v ∷ ws) = w ++ (32 ∷ spaced (v ∷ ws))
+
 -- a word writes a number of at most `most`
 abbrev pub NumberWord : ℕ → List ℕ → ℕ → Type 0
 NumberWord most word n = IsNumeral 10 word × (value 10 word ≤ most) × (n ≡ value 10 word)
 
 module _ {V : Type 0} (G : Ghosts V) (T : Texts V) where
-  -- kind, page, round, house, cp, val, value, with a space between two of them
+  -- kind, page, round, house, cp, val, value
   unfoldable pub vote_text : Vote V → List ℕ
   vote_text v =
-      join_with_byte 32 (decimal v.kind ∷ decimal v.page ∷ decimal v.round ∷ decimal v.house ∷ decimal v.cp ∷ decimal v.val ∷ value_text G T v.value ∷ [])
+      spaced (decimal v.kind ∷ decimal v.page ∷ decimal v.round ∷ decimal v.house ∷ decimal v.cp ∷ decimal v.val ∷ value_text G T v.value ∷ [])
 
   -- seven words that write a vote
   pub record VoteWords (words : List (List ℕ)) (v : Vote V) : Type 0 where

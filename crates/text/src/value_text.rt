@@ -7,7 +7,7 @@ use std::alloc::{AllocError, Global};
 
 // The value that a word writes, if it writes one.
 pub fn read_value<V: TextValue>(heap: Global, word: &str) -> Result<Option<V>, AllocError>
-    ensures { IfOk result (λ o. ValueReads V.Value V.TextValue word.now o) }
+    ensures { IfOk result (λ o. ValueReads V.Value V.TextValue.own word.now o) }
 {
     if word == "blank" {
         Ok(Some(V::blank()))
@@ -17,8 +17,8 @@ pub fn read_value<V: TextValue>(heap: Global, word: &str) -> Result<Option<V>, A
 }
 
 pub fn show_value<V: TextValue>(heap: Global, value: &V) -> Result<String, AllocError>
-    ensures made { IfOk result (λ s. string_bytes s ≡ value_text V.Value V.TextValue value.now) }
-    ensures reads_back { IfOk result (λ s. ValueReadsBack V.Value V.TextValue value.now (string_bytes s)) }
+    ensures made { IfOk result (λ s. string_bytes s ≡ value_text V.Value V.TextValue.own value.now) }
+    ensures reads_back { IfOk result (λ s. ValueReadsBack V.Value V.TextValue.own value.now (string_bytes s)) }
 {
     if value.same(&V::blank()) {
         String::from_str(heap, "blank")

@@ -9,7 +9,7 @@ use votes::vote::Vote;
 use words::number::number;
 
 pub fn show_vote<V: TextValue>(heap: Global, vote: Vote<V>) -> Result<String, AllocError>
-    ensures { IfOk result (λ s. string_bytes s ≡ vote_text V.Value V.TextValue vote) }
+    ensures { IfOk result (λ s. string_bytes s ≡ vote_text V.Value V.TextValue.own vote) }
 {
     let Vote {
         kind,
@@ -26,7 +26,7 @@ pub fn show_vote<V: TextValue>(heap: Global, vote: Vote<V>) -> Result<String, Al
 
 // The vote that words write, if they are seven and write one.
 pub fn read_vote<V: TextValue>(heap: Global, words: &[&str]) -> Result<Option<Vote<V>>, AllocError>
-    ensures { IfOk result (λ o. VoteReads V.Value V.TextValue (map (λ w. w.now) words.now) o) }
+    ensures { IfOk result (λ o. VoteReads V.Value V.TextValue.own (map (λ w. w.now) words.now) o) }
 {
     let [kind, page, round, house, cp, val, value] = words else {
         return Ok(None);
