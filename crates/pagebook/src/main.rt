@@ -15,6 +15,7 @@ use session::{Outcome, Session};
 use std::env;
 use std::fs::File;
 use std::io::{BufRead, BufReader};
+use std::process::ExitCode;
 
 // A line without the line feed that ends it.
 fn text_of(line: &[u8]) -> &[u8] {
@@ -61,16 +62,16 @@ fn run_all(rt: &HostRuntime) -> Result<Option<u64>, Fault> {
     run(rt, &mut BufReader::new(rt.alloc(), rt.stdin())?)
 }
 
-fn main(rt: HostRuntime) -> Result<(), Fault> {
+fn main(rt: HostRuntime) -> ExitCode {
     match run_all(&rt) {
-        Ok(None) => Ok(()),
+        Ok(None) => ExitCode::SUCCESS,
         Ok(Some(number)) => {
-            println!(rt; "error: line {number}: malformed")?;
-            Err(Fault::Malformed)
+            let _ = println!(rt; "error: line {number}: malformed");
+            ExitCode::FAILURE
         }
         Err(fault) => {
             let _ = eprintln!(rt; "pagebook: {fault}");
-            Err(fault)
+            ExitCode::FAILURE
         }
     }
 }

@@ -16,7 +16,7 @@ returns-in_err-place g c =
     let ws = c.args.rest.now in
     let long : length ws ≡ 1 = search rules in
     let read = number_at ws c.number.result 0 _ (omega arith) c.number.ensures in
-    when_yes _ _ _ (counted ws 1 long) (c.number.result, read, missing _ _ _ c.in_err-place.was c.from-residual.ensures)
+    when_yes _ _ _ (counted ws 1 long) (c.number.result, read, missing _ _ _ c.in_err-place.was c.from_residual.ensures)
 
 pub returns : goal.returns
 unfolding FetchWords

@@ -40,4 +40,4 @@ returns-in-Frames g c =
     let new = octets written-bytes in
     let written = ap (filled g.V.Value g.V.TextValue place vote) held ∙ ap (λ b. cond b (Some new) None) (sym fill.value) in
     let wrote = ap octets (with_items_is c.in-Frames.bytes after long ∙ fill.memory) ∙ cond_of octets done written-bytes bytes ∙ ap (λ h. cond done new h) (sym held) in
-    IfOk-weaker c.done-text_in-Frames.result _ _ (λ answer told. prepared before (filled g.V.Value g.V.TextValue place vote before.held) done answer new (octets (vec_items (with_items c.in-Frames.bytes after))) c.if-self.false written wrote told) c.done-text_in-Frames.ensures
+    IfOk-weaker c.done_text-in-Frames.result _ _ (λ answer told. prepared before (filled g.V.Value g.V.TextValue place vote before.held) done answer new (octets (vec_items (with_items c.in-Frames.bytes after))) c.if-self.false written wrote told) c.done_text-in-Frames.ensures
