@@ -1,10 +1,10 @@
 -- Bytes, and numbers in bytes with the highest first. Assumes nothing.
 use Rattle.std.specs.Prelude.{ℕ, zero, suc, ◌+◌, ◌*◌, ◌/◌, ◌%◌, ◌^◌, ◌<◌, List, [], ◌∷◌, slice_index}
-use Rattle.std.specs.List.{AllByRecursion as All}
+use Rattle.std.specs.List.{AllByRecursion}
 
 -- each number of the list is a byte
 abbrev pub Octets : List ℕ → Type 0
-Octets bs = All (λ b. b < 256) bs
+Octets bs = AllByRecursion (λ b. b < 256) bs
 
 -- n in `size` bytes, big-endian
 abbrev pub big : ℕ → ℕ → List ℕ

@@ -3,7 +3,7 @@ use Rattle.std.proofs.Common.{◌≡◌, ℕ, suc, ◌<◌, true, List, [], ◌�
 use Rattle.std.specs.Option.{option_map}
 use Rattle.std.specs.Str.Iter.{IsSplitnRun, CutsAtEveryByte, LacksByte}
 use Rattle.std.specs.Iterator.Runs.{Run}
-use Rattle.std.specs.List.{AllByRecursion as All}
+use Rattle.std.specs.List.{AllByRecursion}
 use Rattle.words.specs.Lines.{Cut}
 
 pub made_from_cases : {X Y : Type 0} (r : Result X Y) (P Q : X → Type 0) → ((x : X) → P x → Q x) → IfOk r P → IfOk r Q
@@ -15,7 +15,7 @@ item_there : {A : Type 0} (P : A → Type 0) (o : Option A) (x : A) → IfSome o
 item_there P None x h e = let z : ◌≡◌ {A = ℕ} 0 1 = cc in absurd (omega arith)
 item_there P (Some y) x h e = let same : y ≡ x = cc in subst P same h
 
-all_apart : (items : List (Bor (List ℕ))) → ((k : ℕ) (d : Bor (List ℕ)) → k < length items → LacksByte 32 (get_or items k d).now) → All (LacksByte 32) (map (λ x. x.now) items)
+all_apart : (items : List (Bor (List ℕ))) → ((k : ℕ) (d : Bor (List ℕ)) → k < length items → LacksByte 32 (get_or items k d).now) → AllByRecursion (LacksByte 32) (map (λ x. x.now) items)
 all_apart [] h = tt
 all_apart (x ∷ xs) h = (h 0 x (omega arith), all_apart xs (λ k d less. h (suc k) d (omega arith)))
 
