@@ -2,7 +2,7 @@
 use Rattle.std.proofs.Common.{◌≡◌, ℕ, ◌+◌, ◌<◌, ◌≤◌, true, cond, eqb, List, length, get_or, drop, sym, ap, ◌∙◌}
 use Rattle.std.proofs.lemmas.List.{drop_more, drop_all}
 use Rattle.std.proofs.lemmas.Bool.{cond-true, cond-false, eq-eqb, ne_eqb}
-use Rattle.pagebook.specs.Sessions.{ignored}
+use Rattle.pagebook.specs.Stages.{ignored}
 
 module _ (line : List ℕ) (i : ℕ) (so_far : ignored (drop i line) ≡ ignored line) where
   here : i < length line → cond (eqb (get_or line i 0) 32) (ignored (drop (i + 1) line)) (eqb (get_or line i 0) 35) ≡ ignored line

@@ -25,15 +25,16 @@ abbrev pub sent_answer : Result (Unit {0}) Fault → List ℕ
 sent_answer (Ok _) = codes "0"
 sent_answer (Err fault) = codes "11 " ++ fault_text fault
 
--- a vote's frame in hexadecimal
-abbrev pub frame_answer : {V : Type 0} (G : Ghosts V) → Vote V → List ℕ
-frame_answer G v = hex_text (frame G v)
+module _ {V : Type 0} (G : Ghosts V) where
+  -- a vote's frame in hexadecimal
+  abbrev pub frame_answer : Vote V → List ℕ
+  frame_answer v = hex_text (frame G v)
+
+  -- the vote that a frame stands for, or that it is unreadable
+  abbrev pub read_answer : Texts V → List ℕ → List ℕ
+  read_answer T bs = cond (readable G bs) (codes "vote " ++ vote_text G T (stands_for G bs)) (codes "unreadable")
 
 module _ {V : Type 0} (G : Ghosts V) (T : Texts V) where
-  -- the vote that a frame stands for, or that it is unreadable
-  abbrev pub read_answer : List ℕ → List ℕ
-  read_answer bs = cond (readable G bs) (codes "vote " ++ vote_text G T (stands_for G bs)) (codes "unreadable")
-
   -- a vote that was fetched, or 12 and the fault
   abbrev pub fetched_answer : Result (Vote V) Fault → List ℕ
   fetched_answer (Ok v) = codes "vote " ++ vote_text G T v

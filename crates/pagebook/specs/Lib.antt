@@ -1,5 +1,6 @@
 -- What a reader has to believe of the program, shortest first.
 pub mod Verbs
+pub mod Stages
 pub mod Commands
 pub mod Answers
 pub mod Desks

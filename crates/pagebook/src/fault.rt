@@ -1,4 +1,7 @@
 // Why the program stops early.
+ghost use Rattle.std.specs.Prelude.{◌≡◌};
+ghost use Rattle.pagebook.specs.declared.fault.Fault.TheVariants.{Memory as memory};
+
 use std::alloc::AllocError;
 use std::{fmt, io};
 
@@ -15,6 +18,8 @@ pub(crate) enum Fault {
 }
 
 impl From<AllocError> for Fault {
+    ghost from_gives = { λ _ e. e ≡ memory };
+
     fn from(_e: AllocError) -> Fault {
         Fault::Memory
     }

@@ -7,11 +7,15 @@ mod desk;
 mod fault;
 mod memory;
 mod read_command;
+#[cfg(test)]
+mod scenarios;
 mod session;
+#[cfg(test)]
+mod tests;
 mod verb;
 
 use fault::Fault;
-use session::{Outcome, Session};
+use session::Session;
 use std::env;
 use std::fs::File;
 use std::io::{BufRead, BufReader};
@@ -27,17 +31,18 @@ fn text_of(line: &[u8]) -> &[u8] {
 
 // Goes through a scenario, a line at a time, up to the first malformed line, and answers that line's number.
 fn run<I: BufRead>(rt: &HostRuntime, input: &mut I) -> Result<Option<u64>, Fault> {
-    let mut session = Session::Start;
+    let mut session = Session::new();
     let mut line = Vec::new(rt.alloc());
     for number in 1..u64::MAX {
         line.clear();
         if input.read_until(b'\n', &mut line)? == 0 {
             break;
         }
-        match session.respond(rt.alloc(), text_of(line.as_slice()))? {
-            Outcome::Printed(text) => rt.println(text)?,
-            Outcome::Silent => {}
-            Outcome::Refused => return Ok(Some(number)),
+        match session.respond(rt.alloc(), text_of(line.as_slice())) {
+            Ok(Some(answer)) => rt.println(answer)?,
+            Ok(None) => {}
+            Err(Fault::Malformed) => return Ok(Some(number)),
+            Err(other) => return Err(other),
         }
     }
     Ok(None)

@@ -6,7 +6,7 @@ mod frames;
 #[cfg(test)]
 mod posts_filled;
 #[cfg(test)]
-mod values;
+mod value_bytes;
 #[cfg(test)]
 mod voids;
 pub mod worked;

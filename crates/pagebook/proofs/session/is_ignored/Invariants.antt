@@ -1,6 +1,6 @@
 -- What holds at each turn of the loop of `session::is_ignored`.
 use Rattle.std.proofs.Common.{◌≡◌, drop}
-use Rattle.pagebook.specs.Sessions.{ignored}
+use Rattle.pagebook.specs.Stages.{ignored}
 use Rattle.pagebook.proofs.session.is_ignored.Given as goal
 
 -- what is left of the line decides
