@@ -1,5 +1,5 @@
 -- What writing the memory answers and leaves, by whether it was done. Assumes nothing.
-use Rattle.std.proofs.Common.{◌≡◌, Bool, true, false, cond, Some, None, string_bytes, codes, Option, String, sym, refl, ap, subst}
+use Rattle.std.proofs.Common.{◌≡◌, Bool, true, false, cond, Some, None, string_bytes, codes, Option, String, sym, refl, subst}
 use Rattle.std.specs.Option.{option_map}
 use Rattle.std.specs.declared.alloc.Global.{Global}
 use Rattle.pagebook.specs.Desks.{Held, View, Reply, prepare, Replied}

@@ -1,5 +1,5 @@
 -- The text of a rate. Assumes nothing.
-use Rattle.std.specs.Prelude.{◌≡◌, ℕ, List, Option, FitsSigned, ◌≢◌, slice_index}
+use Rattle.std.specs.Prelude.{ℕ, List, Option, FitsSigned, ◌≢◌, slice_index}
 use Rattle.std.specs.Int.{w64}
 use Rattle.std.specs.Option.{SomeIff, option_map}
 use Rattle.std.specs.Str.Parse.{IsNumeral, without_leading_sign, signed_digits_value}

@@ -1,5 +1,5 @@
 -- A line that was cut at its spaces. Assumes nothing.
-use Rattle.std.proofs.Common.{◌≡◌, ℕ, suc, ◌<◌, true, List, [], ◌∷◌, map, length, get_or, IfSome, IfOk, Some, None, Ok, Err, Option, Result, sym, ap, subst, arith, Bor}
+use Rattle.std.proofs.Common.{◌≡◌, ℕ, suc, ◌<◌, true, List, [], ◌∷◌, map, length, get_or, IfSome, IfOk, Some, None, Ok, Err, Option, Result, sym, subst, arith, Bor}
 use Rattle.std.specs.Option.{option_map}
 use Rattle.std.specs.Str.Iter.{IsSplitnRun, CutsAtEveryByte, LacksByte}
 use Rattle.std.specs.Iterator.Runs.{Run}

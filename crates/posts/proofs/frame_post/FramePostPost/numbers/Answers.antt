@@ -1,5 +1,5 @@
 -- Why `frame_post::FrameIsPost::numbers` meets its contract.
-use Rattle.std.proofs.Common.{Ok, Err, sym, ap, ◌∙◌, arith}
+use Rattle.std.proofs.Common.{Ok, Err, ap, ◌∙◌, arith}
 use Rattle.posts.specs.Memories.{frame_votes}
 use Rattle.posts.proofs.Calls.{fetched_there, fetched_none, numbers_alike}
 use Rattle.posts.proofs.Standing.{frame_count, frame-nth}

@@ -1,5 +1,5 @@
 -- Why `table_post::TableIsPost::count` meets its contract.
-use Rattle.std.proofs.Common.{sym, ◌∙◌, arith}
+use Rattle.std.proofs.Common.{arith}
 use Rattle.posts.proofs.Tables.{table_count}
 use Rattle.posts.proofs.table_post.TablePostPost.count.Goals as goal
 
