@@ -1,7 +1,7 @@
--- What a reader has to believe of values, shortest first.
+-- What a reader has to believe of values, shortest first; then the proofs of their laws, which the implementations cite.
 pub mod Bytes
 pub mod Rates
 pub mod Fingerprints
-pub mod FingerprintsLemmas
 pub mod BigEndian
 pub mod RatesLemmas
+pub mod FingerprintsLemmas
