@@ -94,3 +94,11 @@ outcome_of (Err faults.Malformed) = Some Refused
 outcome_of (Err faults.Memory) = None
 outcome_of (Err (faults.Unopened name e)) = None
 outcome_of (Err (faults.Stream e)) = None
+
+-- a line is answered, ignored or refused, or memory ran out: nothing else can go wrong with it
+abbrev pub HasOwnError : Result (Option (String Global)) Fault → Type 0
+HasOwnError (Ok _) = Unit {0}
+HasOwnError (Err faults.Malformed) = Unit {0}
+HasOwnError (Err faults.Memory) = Unit {0}
+HasOwnError (Err (faults.Unopened name e)) = ⊥
+HasOwnError (Err (faults.Stream e)) = ⊥

@@ -37,7 +37,7 @@ impl fmt::Display for Fault {
             Fault::Malformed => write!(f, "malformed input"),
             Fault::Memory => write!(f, "no memory is left"),
             Fault::Unopened(name, e) => write!(f, "cannot open {name}: {e}"),
-            Fault::Stream(e) => write!(f, "reading or printing failed: {e}"),
+            Fault::Stream(e) => write!(f, "standard input or output failed: {e}"),
         }
     }
 }
