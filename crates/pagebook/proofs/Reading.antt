@@ -96,4 +96,4 @@ module _ {V : Type 0} (form size count : List ℕ) where
 
   pub posts_nothing : (o : Option (Command V)) → (form ≡ codes "table" → ⊥) → (form ≡ codes "frame" → ⊥) → o ≡ None → PostReads form size count o
   unfolding PostReads
-  posts_nothing o not-IsTable not-frame none = when_no _ _ _ (differ _ _ not-IsTable) (when_no _ _ _ (differ _ _ not-frame) none)
+  posts_nothing o not_table not_frame none = when_no _ _ _ (differ _ _ not_table) (when_no _ _ _ (differ _ _ not_frame) none)

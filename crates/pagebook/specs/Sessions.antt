@@ -95,10 +95,10 @@ outcome_of (Err faults.Memory) = None
 outcome_of (Err (faults.Unopened name e)) = None
 outcome_of (Err (faults.Stream e)) = None
 
--- a line is answered, ignored or refused, or memory ran out: nothing else can go wrong with it
-abbrev pub HasOwnError : Result (Option (String Global)) Fault → Type 0
-HasOwnError (Ok _) = Unit {0}
-HasOwnError (Err faults.Malformed) = Unit {0}
-HasOwnError (Err faults.Memory) = Unit {0}
-HasOwnError (Err (faults.Unopened name e)) = ⊥
-HasOwnError (Err (faults.Stream e)) = ⊥
+-- the only errors of a line: it is malformed, or memory ran out
+abbrev pub OnlyMalformedOrMemory : Result (Option (String Global)) Fault → Type 0
+OnlyMalformedOrMemory (Ok _) = Unit {0}
+OnlyMalformedOrMemory (Err faults.Malformed) = Unit {0}
+OnlyMalformedOrMemory (Err faults.Memory) = Unit {0}
+OnlyMalformedOrMemory (Err (faults.Unopened name e)) = ⊥
+OnlyMalformedOrMemory (Err (faults.Stream e)) = ⊥

@@ -1,7 +1,7 @@
 // A session: what the lines so far have settled, and the answer to the next one.
 ghost use Rattle.std.specs.Prelude.{◌≡◌, IfOk, IfSome};
 ghost use Rattle.pagebook.specs.Desks.{view};
-ghost use Rattle.pagebook.specs.Sessions.{Answers, HasOwnError, Replies, begun, outcome_of, printed, session_view, stage_of};
+ghost use Rattle.pagebook.specs.Sessions.{Answers, OnlyMalformedOrMemory, Replies, begun, outcome_of, printed, session_view, stage_of};
 ghost use Rattle.pagebook.specs.Stages.{Responds, ignored, stage_named};
 ghost use Rattle.pagebook.specs.declared.session.Stage.TheVariants.{Start};
 
@@ -127,7 +127,7 @@ impl Session {
     pub(crate) fn respond(&mut self, heap: Global, line: &[u8]) -> Result<Option<String>, Fault>
         ensures settles { Responds (stage_of self.old) line.now result (stage_of self.new) }
         ensures replies { IfSome (outcome_of result) (λ outcome. Replies (session_view self.old) line.now outcome (session_view self.new)) }
-        ensures errors { HasOwnError result }
+        ensures errors { OnlyMalformedOrMemory result }
     {
         match self.hear(heap, line)? {
             Outcome::Silent => Ok(None),

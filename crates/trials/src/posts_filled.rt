@@ -3,7 +3,6 @@ use posts::fault::Layer;
 use posts::frame_post::FramePost;
 use posts::post::Post;
 use posts::table_post::TablePost;
-use std::test::Fail;
 use values::fingerprint::Fingerprint;
 use values::rate::Rate;
 use values::value::Value;
@@ -101,26 +100,20 @@ fn a_starting_count_is_cut_to_the_capacity(rt: HostRuntime) {
 }
 
 #[test]
-fn memory_of_less_than_a_vote_holds_none(rt: HostRuntime) -> Result<(), Fail> {
+fn memory_of_less_than_a_vote_holds_none(rt: HostRuntime) {
     let mut bytes = [0; 20];
     assert_eq!(rt; FramePost::<Rate>::check(&bytes).is_err(), true);
     assert_eq!(rt; FramePost::<Rate>::check(&[0; 21]).is_ok(), true);
     assert_eq!(rt; TablePost::<Rate>::check(&[]).is_err(), true);
     let mut post = FramePost::<Rate>::new(&mut bytes, 3);
     match post.send(&Vote::empty()) {
-        Ok(()) => {
-            assert!(rt; false);
-            Ok(())
-        },
-        Err(fault) => {
-            assert!(rt; fault.place == 0 && matches!(fault.layer, Layer::Frame));
-            Ok(())
-        },
+        Ok(()) => assert!(rt; false),
+        Err(fault) => assert!(rt; fault.place == 0 && matches!(fault.layer, Layer::Frame)),
     }
 }
 
 #[test]
-fn an_unreadable_frame_is_a_vote_of_kind_0(rt: HostRuntime) -> Result<(), Fail> {
+fn an_unreadable_frame_is_a_vote_of_kind_0(rt: HostRuntime) {
     let mut bytes = [0x77; 42];
     let post = FramePost::<Rate>::new(&mut bytes, 2);
     match post.fetch(1) {
@@ -130,13 +123,7 @@ fn an_unreadable_frame_is_a_vote_of_kind_0(rt: HostRuntime) -> Result<(), Fail> 
         Err(_) => assert!(rt; false),
     }
     match post.numbers(1) {
-        Ok(numbers) => {
-            assert!(rt; numbers.kind == 0 && numbers.house == 0);
-            Ok(())
-        },
-        Err(_) => {
-            assert!(rt; false);
-            Ok(())
-        },
+        Ok(numbers) => assert!(rt; numbers.kind == 0 && numbers.house == 0),
+        Err(_) => assert!(rt; false),
     }
 }
