@@ -1,14 +1,14 @@
 -- What the calls of a post answer, by whether there is room and whether there is a vote. Assumes nothing.
-use Rattle.std.proofs.Common.{◌≡◌, ℕ, zero, suc, ◌<◌, ◌≤◌, List, [], ◌∷◌, ◌++◌, length, Some, None, Ok, Err, Option, Result, sym, refl, ap, ◌∙◌, arith}
-use Rattle.std.proofs.lemmas.Option.{slice_get_past}
+use Rattle.std.proofs.Common.{◌≡◌, ℕ, zero, suc, ◌<◌, ◌≤◌, List, [], ◌∷◌, ◌++◌, length, Some, None, Ok, Err, Option, Result, sym, refl, ap, ap₂, ◌∙◌, arith}
 use Rattle.std.proofs.lemmas.Bool.{cond-true, cond-false, lt-ltb, le-ltb}
-use Rattle.std.specs.Option.{ok_or}
+use Rattle.std.specs.Option.{ok_or, option_map}
 use Rattle.std.specs.Result.{result_map_both}
 use Rattle.std.specs.List.{slice_get}
 use Rattle.posts.specs.Posts.{sent, after_send, fetched, fetched_numbers}
 use Rattle.posts.specs.declared.fault.Fault.{Fault}
 use Rattle.posts.specs.declared.fault.Layer.{Layer}
 use Rattle.votes.specs.Votes.{numbers_of}
+use Rattle.votes.specs.declared.numbers.Numbers.{Numbers}
 use Rattle.votes.specs.declared.vote.Vote.{Vote}
 
 ok_some : {X E : Type 0} (o : Option X) (e : E) (x : X) → Ok x ≡ ok_or o e → o ≡ Some x
@@ -24,6 +24,10 @@ nth_there [] k h e = omega arith
 nth_there (x ∷ xs) zero h e = let z : ◌≡◌ {A = ℕ} 0 1 = cc in omega arith
 nth_there (x ∷ xs) (suc k) h e = nth_there xs k (omega arith) e
 
+ok_or_map : {X Y E : Type 0} (f : X → Y) (o : Option X) (e : E) → ok_or (option_map f o) e ≡ result_map_both f (λ fault. fault) (ok_or o e)
+ok_or_map f None e = refl
+ok_or_map f (Some x) e = refl
+
 module _ {V : Type 0} (layer : Layer) (votes : List (Vote V)) where
   pub sent_there : (capacity : ℕ) → length votes < capacity → Ok tt ≡ sent layer capacity votes
   unfolding sent
@@ -33,13 +37,14 @@ module _ {V : Type 0} (layer : Layer) (votes : List (Vote V)) where
   unfolding sent
   sent_full capacity place full e = ap (λ n. Err (record { layer = layer; place = n })) e ∙ sym (cond-false _ _ _ (le-ltb _ _ full))
 
-  pub fetched_there : (place : ℕ) (v : Vote V) → slice_get votes place ≡ Some v → Ok v ≡ fetched layer votes place
+  -- an option that is refused where nothing stands at the place
+  pub fetched_is : (place : ℕ) (o : Option (Vote V)) (fault : Fault) → o ≡ slice_get votes place → fault ≡ record { layer = layer; place = place } → ok_or o fault ≡ fetched layer votes place
   unfolding fetched
-  fetched_there place v there = ap (λ o. ok_or o (record { layer = layer; place = place })) (sym there)
+  fetched_is place o fault there e = ap₂ ok_or there e
 
-  pub fetched_none : (place : ℕ) → length votes ≤ place → Err (record { layer = layer; place = place }) ≡ fetched layer votes place
-  unfolding fetched
-  fetched_none place past = ap (λ o. ok_or o (record { layer = layer; place = place })) (sym (slice_get_past votes place past))
+  pub fetched_numbers_is : (place : ℕ) (o : Option Numbers) (fault : Fault) → o ≡ option_map numbers_of (slice_get votes place) → fault ≡ record { layer = layer; place = place } → ok_or o fault ≡ fetched_numbers layer votes place
+  unfolding fetched fetched_numbers
+  fetched_numbers_is place o fault there e = ap₂ ok_or there e ∙ ok_or_map numbers_of (slice_get votes place) _
 
   -- a vote that was fetched stands at its place
   pub fetched_vote : (place : ℕ) (v : Vote V) → Ok v ≡ fetched layer votes place → slice_get votes place ≡ Some v

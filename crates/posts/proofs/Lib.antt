@@ -1,4 +1,4 @@
 -- The lemmas of this crate, by topic.
 pub mod Calls
-pub mod Tables
+pub mod Holding
 pub mod Standing

@@ -1,4 +1,4 @@
--- The two memories: what each holds for a count, and how many votes it may hold. Assumes nothing.
+-- The votes of a post over a memory, and the two memories: what each holds, and how many votes it may hold. Assumes nothing.
 use Rattle.std.specs.Prelude.{◌≡◌, ℕ, zero, suc, ◌+◌, ◌*◌, ◌/◌, ◌≤◌, min, cond, List, [], ◌∷◌, ◌++◌, length, take, drop, Ok, Err, Result, slice_set, refl}
 use Rattle.std.proofs.Common.{◌∙◌, length-append}
 use native.Mathlib.Omega.{arith}
@@ -24,14 +24,22 @@ memory_check (suc n) = Ok tt
 abbrev pub too_small_code : ℕ
 too_small_code = 1
 
--- a table of records
 module _ {V : Type 0} where
+  -- the votes of a post with a stated count, which the capacity cuts, over a memory in which these votes stand
+  unfoldable pub held : ℕ → List (Vote V) → List (Vote V)
+  held count votes = take (min count (cut (length votes))) votes
+
+  pub held_within : (count : ℕ) (votes : List (Vote V)) (places : ℕ) → length votes ≡ places → length (held count votes) ≤ cut places
+  unfolding held
+  held_within count votes places long = let taken = length-take (min count (cut (length votes))) votes in omega (arith, long)
+
+  -- a table of records
   abbrev pub table_capacity : List (Vote V) → ℕ
   table_capacity table = cut (length table)
 
-  -- the votes of a table post with a stated count, which the capacity cuts
-  unfoldable pub table_votes : ℕ → List (Vote V) → List (Vote V)
-  table_votes count table = take (min count (table_capacity table)) table
+  -- the votes of a table post with a stated count
+  abbrev pub table_votes : ℕ → List (Vote V) → List (Vote V)
+  table_votes count table = held count table
 
   -- the table after a vote was sent: its record alone is written
   unfoldable pub table_after : ℕ → List (Vote V) → Vote V → List (Vote V)
@@ -39,14 +47,14 @@ module _ {V : Type 0} where
       let votes = table_votes count table in
       cond (has_room (table_capacity table) votes) (slice_set table (length votes) v) table
 
-  pub table_within : (count : ℕ) (table : List (Vote V)) → length (table_votes count table) ≤ table_capacity table
-  unfolding table_votes
-  table_within count table = let long = length-take (min count (table_capacity table)) table in omega arith
-
 -- bytes: frame k stands at k times the size of a frame
 module _ {V : Type 0} (G : Ghosts V) where
+  -- how many frames bytes have room for
+  abbrev pub frame_places : List ℕ → ℕ
+  frame_places bytes = length bytes / frame_size G
+
   abbrev pub frame_capacity : List ℕ → ℕ
-  frame_capacity bytes = cut (length bytes / frame_size G)
+  frame_capacity bytes = cut (frame_places bytes)
 
   -- the bytes of frame k
   abbrev pub frame_at : ℕ → List ℕ → List ℕ
@@ -57,17 +65,20 @@ module _ {V : Type 0} (G : Ghosts V) where
   standing zero bytes = []
   standing (suc n) bytes = standing n bytes ++ stands_for G (frame_at n bytes) ∷ []
 
-  -- the votes of a frame post with a stated count, which the capacity cuts
-  unfoldable pub frame_votes : ℕ → List ℕ → List (Vote V)
-  frame_votes count bytes = standing (min count (frame_capacity bytes)) bytes
+  -- what all the frames of bytes stand for
+  abbrev pub frames_in : List ℕ → List (Vote V)
+  frames_in bytes = standing (frame_places bytes) bytes
+
+  -- the votes of a frame post with a stated count
+  abbrev pub frame_votes : ℕ → List ℕ → List (Vote V)
+  frame_votes count bytes = held count (frames_in bytes)
 
   pub standing_long : (n : ℕ) (bytes : List ℕ) → length (standing n bytes) ≡ n
   standing_long zero bytes = refl
   standing_long (suc n) bytes = length-append (standing n bytes) _ ∙ omega (arith, standing_long n bytes)
 
-  pub frame_within : (count : ℕ) (bytes : List ℕ) → length (frame_votes count bytes) ≤ frame_capacity bytes
-  unfolding frame_votes
-  frame_within count bytes = let long = standing_long (min count (frame_capacity bytes)) bytes in omega arith
+  pub frames_long : (bytes : List ℕ) → length (frames_in bytes) ≡ frame_places bytes
+  frames_long bytes = standing_long (frame_places bytes) bytes
 
   -- the bytes with frame k written over, all others as they were
   abbrev pub with_frame : ℕ → List ℕ → List ℕ → List ℕ

@@ -2,7 +2,8 @@
 #![tactic(auto)]
 
 pub mod fault;
-pub mod frame_post;
+pub mod frames;
 pub mod memory;
+pub mod memory_post;
 pub mod post;
-pub mod table_post;
+pub mod table;

@@ -41,12 +41,10 @@ pub trait Post {
         ensures { result ≡ fetched layer (votes self.now) place };
 
     // The numbers of the vote at a place: counting looks at many numbers for each value that it compares.
+    #[tactic(auto, unfolding(crate::specs::Posts::fetched_numbers))]
     fn numbers(&self, place: usize) -> Result<Numbers, Fault>
         ensures { result ≡ fetched_numbers layer (votes self.now) place }
     {
-        match self.fetch(place) {
-            Ok(vote) => Ok(vote.numbers()),
-            Err(fault) => Err(fault),
-        }
+        self.fetch(place).map(|vote| vote.numbers())
     }
 }

@@ -1,0 +1,9 @@
+-- Why `memory_post::MemoryPost::new` meets its contract.
+use Rattle.std.proofs.Common.{arith}
+use Rattle.posts.proofs.Holding.{held_cut}
+use Rattle.posts.proofs.memory_post.MemoryPost.new.Goals as goal
+
+pub returns-clause-votes : goal.returns-clause-votes
+returns-clause-votes g c =
+    let M = g.M.Memory in
+    held_cut c.args.count _ (M.votes c.args.memory) (M.long c.args.memory) _ (omega (arith, c.min-cut.ensures, c.capacity_for.ensures, c.places.ensures))
