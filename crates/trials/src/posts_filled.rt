@@ -59,7 +59,13 @@ fn holds<V: Value, P: Post<Value = V>>(post: &P, value: V, room: u8) -> bool {
 #[test]
 fn a_table_fills_up_and_is_read_back(rt: HostRuntime) {
     let mut rates = [Vote::<Rate>::empty(); 3];
-    assert!(rt; fills_up(&mut MemoryPost::new(Table::over(&mut rates), 0), Rate { amount: -7 }, 3));
+    assert!(rt;
+        fills_up(
+            &mut MemoryPost::new(Table::over(&mut rates), 0),
+            Rate { amount: -7 },
+            3
+        )
+    );
     assert_eq!(rt; rates[2].house, 2);
     let mut prints = [Vote::<Fingerprint>::empty(); 2];
     let print = Fingerprint {
@@ -85,7 +91,13 @@ fn frames_fill_up_and_leave_the_rest_of_the_bytes(rt: HostRuntime) {
     let print = Fingerprint {
         words: [1, 2, 3, 4],
     };
-    assert!(rt; fills_up(&mut MemoryPost::new(Frames::<Fingerprint>::over(&mut bytes), 0), print, 2));
+    assert!(rt;
+        fills_up(
+            &mut MemoryPost::new(Frames::<Fingerprint>::over(&mut bytes), 0),
+            print,
+            2
+        )
+    );
     assert!(rt; bytes[90..100] == [0xee; 10]);
 }
 
@@ -93,11 +105,20 @@ fn frames_fill_up_and_leave_the_rest_of_the_bytes(rt: HostRuntime) {
 fn a_starting_count_is_cut_to_the_capacity(rt: HostRuntime) {
     let mut table = [Vote::<Rate>::empty(); 1_025];
     assert_eq!(rt; MemoryPost::new(Table::over(&mut table), 9).count(), 9);
-    assert_eq!(rt; MemoryPost::new(Table::over(&mut table), usize::MAX).count(), 1_024);
+    assert_eq!(rt;
+        MemoryPost::new(Table::over(&mut table), usize::MAX).count(),
+        1_024
+    );
     let mut bytes = [0; 41];
-    assert_eq!(rt; MemoryPost::new(Frames::<Rate>::over(&mut bytes), 5).count(), 1);
+    assert_eq!(rt;
+        MemoryPost::new(Frames::<Rate>::over(&mut bytes), 5).count(),
+        1
+    );
     let mut bytes = [0; 21_525];
-    assert_eq!(rt; MemoryPost::new(Frames::<Rate>::over(&mut bytes), 5_000).count(), 1_024);
+    assert_eq!(rt;
+        MemoryPost::new(Frames::<Rate>::over(&mut bytes), 5_000).count(),
+        1_024
+    );
 }
 
 #[test]
