@@ -3,7 +3,7 @@ ghost use Rattle.std.specs.Prelude.{◌≡◌, ◌+◌, ◌*◌, ◌≤◌, leng
 ghost use Rattle.std.proofs.Common.{ap, ◌∙◌, lit≤};
 ghost use Rattle.values.specs.Bytes.{field};
 ghost use Rattle.values.specs.Fingerprints.{fingerprint_bytes, fingerprint_parsed, fingerprint_blank};
-ghost use Rattle.values.specs.FingerprintsLemmas.{length_words, octets_words, fingerprint_reading, fingerprint_writing, fingerprint_equal};
+ghost use Rattle.values.specs.FingerprintsLemmas.{length_words, octets_words, fingerprint_reading, fingerprint_writing};
 
 use crate::fingerprint::Fingerprint;
 use crate::value::Value;
@@ -42,8 +42,6 @@ impl Value for Fingerprint {
 
     ghost octets = { λ f. octets_words f.words };
 
-    ghost equal = { fingerprint_equal };
-
     ghost reading = { fingerprint_reading };
 
     ghost writing = { fingerprint_writing };
@@ -70,6 +68,10 @@ impl Value for Fingerprint {
             word_at(from, 24),
         ];
         Some(Fingerprint { words })
+    }
+
+    fn same(&self, other: &Fingerprint) -> bool {
+        self == other
     }
 
     fn blank() -> Fingerprint {
