@@ -1,3 +1,4 @@
 -- What a reader has to believe of words.
 pub mod Hex
 pub mod Lines
+pub mod Refusals

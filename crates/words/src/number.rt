@@ -10,8 +10,5 @@ pub fn number(word: &str, most: u64) -> Option<u64>
     if word.starts_with('+') {
         return None;
     }
-    match word.parse::<u64>() {
-        Ok(n) if n <= most => Some(n),
-        _ => None,
-    }
+    word.parse::<u64>().ok().filter(|n| *n <= most)
 }
