@@ -1,6 +1,6 @@
 -- A rate's bytes write it and are read back as it. Assumes nothing.
 use Rattle.std.specs.Prelude.{◌≡◌, ℕ, ◌%◌, ◌^◌, ◌<◌, List, length, FitsSigned}
-use Rattle.std.proofs.Common.{ap, ◌∙◌, mod-eq_of_lt, arith, to_z-of_z, of_z, to_z}
+use Rattle.std.proofs.Common.{sym, ap, ◌∙◌, mod-eq_of_lt, arith, to_z-of_z, of_z, to_z}
 use mathlib.Core.HLevel.{is_prop→PathP}
 use Rattle.std.proofs.Math.Bridge.{le_prop}
 use Rattle.std.specs.Int.Signed.{mag}
@@ -36,3 +36,7 @@ rate_writing bs long small =
     ∙ ap (big 8) (of_z-to_z {w = w64} (record { fits = fits }))
     ∙ big-field 8 0 bs (omega arith) small
     ∙ take_all 8 bs (omega arith)
+
+pub amount_from_bytes : (r s : Rate) → rate_bytes r ≡ rate_bytes s → r.amount ≡ s.amount
+amount_from_bytes r s e =
+    ap (λ (t : Rate). t.amount) (sym (rate_reading r) ∙ ap rate_parsed e ∙ rate_reading s)

@@ -71,7 +71,7 @@ impl Value for Fingerprint {
     }
 
     fn same(&self, other: &Fingerprint) -> bool {
-        self.words == other.words
+        self == other
     }
 
     fn blank() -> Fingerprint {

@@ -38,15 +38,12 @@ impl Value for Rate {
     }
 
     fn read(from: &[u8]) -> Option<Rate> {
-        let [a, b, c, d, e, f, g, h] = from else {
-            return None;
-        };
-        let amount = i64::from_be_bytes([*a, *b, *c, *d, *e, *f, *g, *h]);
+        let amount = i64::from_be_bytes(<[u8; 8]>::try_from(from).ok()?);
         Some(Rate { amount })
     }
 
     fn same(&self, other: &Rate) -> bool {
-        self.amount == other.amount
+        self == other
     }
 
     fn blank() -> Rate {

@@ -28,6 +28,7 @@ pub trait Value: Copy {
     fn read(from: &[u8]) -> Option<Self>
         ensures { result ≡ (if nat_eq (length from.now) width then Some (parsed from.now) else None) };
 
+    // Written in each impl: with `Eq` above this trait, `V.Value` in the clauses of the crates above would hold members of both.
     fn same(&self, other: &Self) -> bool
         ensures { result ≡ bytes_eq (bytes self.now) (bytes other.now) };
 

@@ -1,8 +1,8 @@
 -- What makes a frame readable, and that writing and reading a frame undo each other. Assumes nothing.
-use Rattle.std.proofs.Common.{◌≡◌, ℕ, ◌+◌, ◌-◌, ◌^◌, ◌<◌, ◌≤◌, Bool, true, false, cond, eqb, List, [], ◌++◌, length, take, drop, Some, None, sym, refl, ap, ◌∙◌, subst, ap₂, arith, take-append-drop, take-add}
-use borrow.Rule.Slice.PartMut.{put_mid, post_of}
+use Rattle.std.proofs.Common.{slice_index, ◌≡◌, ℕ, ◌+◌, ◌-◌, ◌^◌, ◌<◌, ◌≤◌, Bool, true, false, cond, eqb, List, [], ◌++◌, length, take, drop, Some, None, sym, refl, ap, ◌∙◌, subst, ap₂, arith, take-append-drop, take-add}
+use borrow.Rule.Slice.PartMut.{put_mid}
 use Rattle.std.proofs.ByRecursion.{All-drop}
-use Rattle.std.proofs.lemmas.List.{append-nil, drop_all, length-drop, take_at, take_rest}
+use Rattle.std.proofs.lemmas.List.{get_or-take, append-nil, drop_all, length-drop, take_at}
 use Rattle.std.proofs.lemmas.Bool.{and_parts, and_from, eq-eqb, eqb-true, cond-true, cond-false}
 use Rattle.values.specs.Bytes.{Octets, big, field}
 use Rattle.votes.specs.Frames.{header, frame, readable, fields, stands_for, ReadsBack, WritesBack, UnreadableIsEmpty}
@@ -20,16 +20,8 @@ pub none_cond : {X : Type 0} (b : Bool) (x : X) → None ≡ cond b (Some x) Non
 none_cond true x e = let z : ◌≡◌ {A = ℕ} 0 1 = cc in absurd (omega arith)
 none_cond false x e = refl
 
-pub vote_from_parts : {V : Type 0} (v w : Vote V) → v.kind ≡ w.kind → v.page ≡ w.page → v.round ≡ w.round → v.house ≡ w.house → v.cp ≡ w.cp → v.val ≡ w.val → v.value ≡ w.value → v ≡ w
-vote_from_parts v w kind page round house cp val value = λ i. record {
-  kind = kind i;
-  page = page i;
-  round = round i;
-  house = house i;
-  cp = cp i;
-  val = val i;
-  value = value i;
-}
+pub vote_from_parts : {V : Type 0} (v w : Vote V) → v.numbers ≡ w.numbers → v.value ≡ w.value → v ≡ w
+vote_from_parts v w numbers value = λ i. record { numbers = numbers i; value = value i }
 
 pub numbers_from_parts : (m n : Numbers) → m.kind ≡ n.kind → m.page ≡ n.page → m.round ≡ n.round → m.house ≡ n.house → m.cp ≡ n.cp → m.val ≡ n.val → m ≡ n
 numbers_from_parts m n kind page round house cp val = λ i. record { kind = kind i; page = page i; round = round i; house = house i; cp = cp i; val = val i }
@@ -60,12 +52,9 @@ module _ {V : Type 0} (G : Ghosts V) (bs : List ℕ) where
       by_test true e = absurd (no_way (readable_parts e))
       by_test false e = refl
 
-  -- the bytes after the header, as `split` takes them
-  pub rest_is : take (length bs - 13) (drop 13 bs) ≡ drop 13 bs
-  rest_is = take_rest bs 13
-
-  pub length_rest : length (take (length bs - 13) (drop 13 bs)) ≡ length bs - 13
-  length_rest = ap length rest_is ∙ length-drop 13 bs
+  -- a byte of the header
+  pub header_byte : (first : List ℕ) → first ≡ take 13 bs → (k : ℕ) → k < 13 → slice_index first k ≡ slice_index bs k
+  header_byte first e k below = ap (λ xs. slice_index xs k) e ∙ get_or-take 13 bs k 0 below
 
   -- the kind of value is asked to read the rest of a readable frame
   module _ (rest : List ℕ) (whole : readable G bs ≡ true) (rest_of : rest ≡ drop 13 bs) where
@@ -77,39 +66,36 @@ module _ {V : Type 0} (G : Ghosts V) (bs : List ℕ) where
     pub parse_never_refuses : {X : Type 0} (x : X) → None ≡ cond (eqb (length rest) G.width) (Some x) None → ⊥
     parse_never_refuses x e = let z : true ≡ false = sym rest_wide ∙ none_cond _ x e in let zz : ◌≡◌ {A = ℕ} 0 1 = cc in omega arith
 
-    pub parse_answers : (v : V) (w : Vote V) → numbers_of w ≡ numbers_of (fields G bs) → w.value ≡ v
+    pub parse_answers : (v : V) (w : Vote V) → w.numbers ≡ numbers_of (fields G bs) → w.value ≡ v
         → Some v ≡ cond (eqb (length rest) G.width) (Some (G.parsed rest)) None
         → Some w ≡ cond (readable G bs) (Some (fields G bs)) None
     unfolding fields
     parse_answers v w numbers value e =
         let read = some_cond _ _ v e in
-        let same = vote_from_parts w (fields G bs)
-        (ap (λ n. n.kind) numbers) (ap (λ n. n.page) numbers) (ap (λ n. n.round) numbers)
-        (ap (λ n. n.house) numbers) (ap (λ n. n.cp) numbers) (ap (λ n. n.val) numbers)
-        (value ∙ read.1 ∙ ap G.parsed rest_of) in
+        let same = vote_from_parts w (fields G bs) numbers (value ∙ read.1 ∙ ap G.parsed rest_of) in
         ap Some same ∙ sym (cond-true _ _ _ whole)
 
 -- the first `place` elements are written, and then the rest
-written_in_two : (out first last : List ℕ) (place : ℕ) → length first ≡ place → let xs = first ++ post_of 0 place out in put_mid place (length xs - place) xs last ≡ first ++ last
+written_in_two : (out first last : List ℕ) (place : ℕ) → length first ≡ place → let xs = first ++ drop place out in put_mid place (length xs - place) xs last ≡ first ++ last
 written_in_two out first last place long =
-    let xs = first ++ post_of 0 place out in
+    let xs = first ++ drop place out in
     let none : drop (length xs - place) (drop place xs) ≡ [] = drop_all _ (drop place xs) (simp length-drop (omega arith)) in
-    ap₂ (λ ys zs. ys ++ (last ++ zs)) (take_at first (post_of 0 place out) place long) none ∙ ap (λ ys. first ++ ys) (append-nil last)
+    ap₂ (λ ys zs. ys ++ (last ++ zs)) (take_at first (drop place out) place long) none ∙ ap (λ ys. first ++ ys) (append-nil last)
 
 -- the header is written, and then the value
-pub frame_written : {V : Type 0} (G : Ghosts V) (v : Vote V) (out : List ℕ) {first last : List ℕ} → first ≡ header G v → last ≡ G.bytes v.value → let xs = first ++ post_of 0 13 out in put_mid 13 (length xs - 13) xs last ≡ frame G v
+pub frame_written : {V : Type 0} (G : Ghosts V) (v : Vote V) (out : List ℕ) {first last : List ℕ} → first ≡ header G v → last ≡ G.bytes v.value → let xs = first ++ drop 13 out in put_mid 13 (length xs - 13) xs last ≡ frame G v
 unfolding frame
 frame_written G v out {first} {last} header_is value-is =
     written_in_two out first last 13 (ap length header_is) ∙ ap₂ ◌++◌ header_is value-is
 
 -- the numbers of a vote have the widths of a frame's fields
-pub record Widths {V : Type 0} (v : Vote V) : Type 0 where
-  pub kind : v.kind < 2 ^ 8
-  pub page : v.page < 2 ^ 32
-  pub round : v.round < 2 ^ 16
-  pub house : v.house < 2 ^ 8
-  pub cp : v.cp < 2 ^ 8
-  pub val : v.val < 2 ^ 8
+pub record Widths (n : Numbers) : Type 0 where
+  pub kind : n.kind < 2 ^ 8
+  pub page : n.page < 2 ^ 32
+  pub round : n.round < 2 ^ 16
+  pub house : n.house < 2 ^ 8
+  pub cp : n.cp < 2 ^ 8
+  pub val : n.val < 2 ^ 8
 
 module _ {V : Type 0} (G : Ghosts V) where
   frame_readable : (v : Vote V) → G.width ≤ 32 → length (G.bytes v.value) ≡ G.width → Readable G (frame G v)
@@ -120,20 +106,21 @@ module _ {V : Type 0} (G : Ghosts V) where
     current = refl;
   }
 
-  frame_fields : (v : Vote V) → Widths v → G.parsed (G.bytes v.value) ≡ v.value → fields G (frame G v) ≡ v
+  frame_fields : (v : Vote V) → Widths v.numbers → G.parsed (G.bytes v.value) ≡ v.value → fields G (frame G v) ≡ v
   unfolding frame fields
   frame_fields v wide reading =
-      vote_from_parts _ v
-      (number-big 1 v.kind wide.kind)
-      (number-big 4 v.page wide.page)
-      (number-big 2 v.round wide.round)
-      (number-big 1 v.house wide.house)
-      (number-big 1 v.cp wide.cp)
-      (number-big 1 v.val wide.val)
-      reading
+      let n = v.numbers in
+      let numbers = numbers_from_parts (fields G (frame G v)).numbers n
+      (number-big 1 n.kind wide.kind)
+      (number-big 4 n.page wide.page)
+      (number-big 2 n.round wide.round)
+      (number-big 1 n.house wide.house)
+      (number-big 1 n.cp wide.cp)
+      (number-big 1 n.val wide.val) in
+      vote_from_parts _ v numbers reading
 
   -- a vote written as a frame reads back as that vote
-  pub frame_reads_back : (v : Vote V) → Widths v → G.width ≤ 32 → length (G.bytes v.value) ≡ G.width → G.parsed (G.bytes v.value) ≡ v.value → ReadsBack G v (frame G v)
+  pub frame_reads_back : (v : Vote V) → Widths v.numbers → G.width ≤ 32 → length (G.bytes v.value) ≡ G.width → G.parsed (G.bytes v.value) ≡ v.value → ReadsBack G v (frame G v)
   unfolding stands_for
   frame_reads_back v wide most long reading =
       let whole = readable_whole G (frame G v) (frame_readable v most long) in

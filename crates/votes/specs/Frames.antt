@@ -25,12 +25,12 @@ module _ {V : Type 0} (G : Ghosts V) where
   header v =
       big 2 frame_length  -- length
       ++ big 1 version  -- version
-      ++ big 1 v.kind
-      ++ big 4 v.page
-      ++ big 2 v.round
-      ++ big 1 v.house
-      ++ big 1 v.cp
-      ++ big 1 v.val
+      ++ big 1 v.numbers.kind
+      ++ big 4 v.numbers.page
+      ++ big 2 v.numbers.round
+      ++ big 1 v.numbers.house
+      ++ big 1 v.numbers.cp
+      ++ big 1 v.numbers.val
 
   unfoldable pub frame : Vote V → List ℕ
   frame v = header v ++ G.bytes v.value
@@ -45,12 +45,14 @@ module _ {V : Type 0} (G : Ghosts V) where
   -- the fields of a frame, by their sizes and places
   unfoldable pub fields : List ℕ → Vote V
   fields bs = record {
-    kind = field 1 3 bs;
-    page = field 4 4 bs;
-    round = field 2 8 bs;
-    house = field 1 10 bs;
-    cp = field 1 11 bs;
-    val = field 1 12 bs;
+    numbers = record {
+      kind = field 1 3 bs;
+      page = field 4 4 bs;
+      round = field 2 8 bs;
+      house = field 1 10 bs;
+      cp = field 1 11 bs;
+      val = field 1 12 bs;
+    };
     value = G.parsed (drop 13 bs);
   }
 

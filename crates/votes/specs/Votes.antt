@@ -1,9 +1,10 @@
 -- The six kinds of vote, which votes are void, and slots. Assumes nothing.
-use Rattle.std.specs.Prelude.{ℕ, Bool, true, false, cond, not, ◌&&◌, List, [], ◌∷◌, Some, None, Option, ◌==◌, nat_le, nat_lt}
+use Rattle.std.specs.Prelude.{◌≡◌, ℕ, Bool, true, false, cond, not, ◌&&◌, List, [], ◌∷◌, Some, None, Option, Result, MatchResult, ◌==◌, nat_le, nat_lt}
 use Rattle.std.specs.Str.{bytes_eq}
 use Rattle.votes.specs.declared.kind.Kind.{Kind}
 use Rattle.votes.specs.declared.kind.Kind.TheVariants.{Proposal, Precommit, PreVote, MainVote, Decided, Announcement}
 use Rattle.votes.specs.declared.kind.Shape.{Shape}
+use Rattle.votes.specs.declared.kind.UnknownKind.{UnknownKind}
 use Rattle.votes.specs.declared.numbers.Numbers.{Numbers}
 use Rattle.values.specs.declared.value.Value.{Ghosts}
 use Rattle.votes.specs.declared.vote.Vote.{Vote}
@@ -36,25 +37,22 @@ kind_among (k ∷ ks) n = cond (n == code_of k) (Some k) (kind_among ks n)
 abbrev pub kind_of : ℕ → Option Kind
 kind_of n = kind_among (Proposal ∷ Precommit ∷ PreVote ∷ MainVote ∷ Decided ∷ Announcement ∷ []) n
 
+-- the result is the kind that has a number, or says that no kind has it
+abbrev pub Names : ℕ → Result Kind UnknownKind → Type 0
+Names n r = MatchResult r (λ k. Some k ≡ kind_of n) (λ e. (None ≡ kind_of n) × (e.0 ≡ n))
+
 -- the six numbers of a vote
 abbrev pub numbers_of : {V : Type 0} → Vote V → Numbers
-numbers_of v = record {
-  kind = v.kind;
-  page = v.page;
-  round = v.round;
-  house = v.house;
-  cp = v.cp;
-  val = v.val;
-}
+numbers_of v = v.numbers
 
 -- the vote's page, round and house are those of a circle of n houses
 abbrev pub in_range : {V : Type 0} → ℕ → Vote V → Bool
-in_range n v = nat_le v.page highest_page && (nat_le v.round highest_round && nat_lt v.house n)
+in_range n v = nat_le v.numbers.page highest_page && (nat_le v.numbers.round highest_round && nat_lt v.numbers.house n)
 
 -- two votes stand in one slot: they agree in kind, page, round, house and cp
 unfoldable pub same_slot : {V : Type 0} → Vote V → Vote V → Bool
 same_slot a b =
-    (a.kind == b.kind) && (a.page == b.page && (a.round == b.round && (a.house == b.house && a.cp == b.cp)))
+    (a.numbers.kind == b.numbers.kind) && (a.numbers.page == b.numbers.page && (a.numbers.round == b.numbers.round && (a.numbers.house == b.numbers.house && a.numbers.cp == b.numbers.cp)))
 
 -- of the kinds that carry a value
 abbrev pub carrying : Shape
@@ -80,7 +78,7 @@ module _ {V : Type 0} (G : Ghosts V) where
   -- cp, val and value are as a kind asks
   abbrev pub fits_shape : Shape → Vote V → Bool
   fits_shape s v =
-      nat_le v.cp s.cp && (nat_le s.low v.val && (nat_le v.val s.high && cond s.valued (not (is_blank v.value)) (is_blank v.value)))
+      nat_le v.numbers.cp s.cp && (nat_le s.low v.numbers.val && (nat_le v.numbers.val s.high && cond s.valued (not (is_blank v.value)) (is_blank v.value)))
 
   -- the vote has a kind, and that kind's shape
   abbrev pub shaped : Option Kind → Vote V → Bool
@@ -89,8 +87,11 @@ module _ {V : Type 0} (G : Ghosts V) where
 
   -- void in a circle of n houses
   unfoldable pub void : ℕ → Vote V → Bool
-  void n v = not (in_range n v && shaped (kind_of v.kind) v)
+  void n v = not (in_range n v && shaped (kind_of v.numbers.kind) v)
 
   -- the vote that an unreadable frame stands for
   abbrev pub empty_vote : Vote V
-  empty_vote = record { kind = 0; page = 0; round = 0; house = 0; cp = 0; val = 0; value = G.blank }
+  empty_vote = record {
+    numbers = record { kind = 0; page = 0; round = 0; house = 0; cp = 0; val = 0 };
+    value = G.blank;
+  }

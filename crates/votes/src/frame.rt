@@ -5,6 +5,8 @@ ghost use Rattle.votes.specs.Frames.{frame, frame_size, frame_length, header as 
 
 use crate::numbers::Numbers;
 use crate::vote::Vote;
+use std::error::Error;
+use std::fmt;
 use values::value::Value;
 
 // The version of the frame format.
@@ -28,13 +30,22 @@ fn frame_length<V: Value>() -> u16
 }
 
 // A buffer that has more or fewer bytes than a frame.
-#[derive(Clone, Copy)]
+#[derive(Clone, Copy, Debug, PartialEq, Eq)]
 pub struct WrongSize;
+
+impl fmt::Display for WrongSize {
+    fn fmt<W: fmt::Write>(&self, f: &mut fmt::Formatter<W>) -> fmt::Result {
+        f.write_str("the buffer is not as long as a frame")
+    }
+}
+
+impl Error for WrongSize {}
 
 // The numbers in a frame's header, and the bytes of its value, if size, length and version are right.
 fn split<V: Value>(bytes: &[u8]) -> Option<(Numbers, &[u8])>
     ensures { MatchOption result (readable V.Value bytes.now ≡ false) (λ p. (readable V.Value bytes.now ≡ true) × (p.0 ≡ numbers_of (fields V.Value bytes.now)) × (p.1.now ≡ drop 13 bytes.now)) }
 {
+    let (header, value) = bytes.split_first_chunk::<HEADER>()?;
     let [
         l1,
         l0,
@@ -49,27 +60,18 @@ fn split<V: Value>(bytes: &[u8]) -> Option<(Numbers, &[u8])>
         house,
         cp,
         val,
-        value @ ..,
-    ] = bytes
-    else {
-        return None;
-    };
-    if u16::from_be_bytes([*l1, *l0]) != frame_length::<V>() {
-        return None;
-    }
-    if *version != VERSION {
-        return None;
-    }
-    if value.len() != V::width() {
+    ] = *header;
+    let length = u16::from_be_bytes([l1, l0]);
+    if length != frame_length::<V>() || version != VERSION || value.len() != V::width() {
         return None;
     }
     let numbers = Numbers {
-        kind: *kind,
-        page: u32::from_be_bytes([*p3, *p2, *p1, *p0]),
-        round: u16::from_be_bytes([*r1, *r0]),
-        house: *house,
-        cp: *cp,
-        val: *val,
+        kind,
+        page: u32::from_be_bytes([p3, p2, p1, p0]),
+        round: u16::from_be_bytes([r1, r0]),
+        house,
+        cp,
+        val,
     };
     Some((numbers, value))
 }
@@ -78,19 +80,9 @@ fn split<V: Value>(bytes: &[u8]) -> Option<(Numbers, &[u8])>
 fn parse<V: Value>(bytes: &[u8]) -> Option<Vote<V>>
     ensures { result ≡ (if readable V.Value bytes.now then Some (fields V.Value bytes.now) else None) }
 {
-    let Some((numbers, value)) = split::<V>(bytes) else {
-        return None;
-    };
+    let (numbers, value) = split::<V>(bytes)?;
     let value = V::read(value)?;
-    Some(Vote {
-        kind: numbers.kind,
-        page: numbers.page,
-        round: numbers.round,
-        house: numbers.house,
-        cp: numbers.cp,
-        val: numbers.val,
-        value,
-    })
+    Some(Vote { numbers, value })
 }
 
 // What stands before the value.
@@ -98,10 +90,11 @@ fn header<V: Value>(vote: Vote<V>) -> [u8; HEADER]
     ensures { result ≡ header_of V.Value vote }
 {
     let [l1, l0] = frame_length::<V>().to_be_bytes();
-    let [p3, p2, p1, p0] = vote.page.to_be_bytes();
-    let [r1, r0] = vote.round.to_be_bytes();
+    let n = vote.numbers;
+    let [p3, p2, p1, p0] = n.page.to_be_bytes();
+    let [r1, r0] = n.round.to_be_bytes();
     [
-        l1, l0, VERSION, vote.kind, p3, p2, p1, p0, r1, r0, vote.house, vote.cp, vote.val,
+        l1, l0, VERSION, n.kind, p3, p2, p1, p0, r1, r0, n.house, n.cp, n.val,
     ]
 }
 
@@ -114,7 +107,7 @@ pub fn write_frame<V: Value>(vote: Vote<V>, out: &mut [u8]) -> Result<(), WrongS
     if out.len() != frame_size::<V>() {
         return Err(WrongSize);
     }
-    out[0..HEADER].copy_from_slice(&header(vote));
+    out[..HEADER].copy_from_slice(&header(vote));
     vote.value.write(&mut out[HEADER..]);
     Ok(())
 }
@@ -131,18 +124,14 @@ pub fn read_frame<V: Value>(bytes: &[u8]) -> Vote<V>
     ensures writes_back { WritesBack V.Value bytes.now result }
     ensures unreadable { UnreadableIsEmpty V.Value bytes.now result }
 {
-    match parse(bytes) {
-        Some(vote) => vote,
-        None => Vote::empty(),
-    }
+    parse(bytes).unwrap_or_else(|| Vote::empty())
 }
 
 // The numbers of the vote that a frame stands for, from its header alone.
 pub fn read_numbers<V: Value>(bytes: &[u8]) -> Numbers
     ensures { result ≡ numbers_of (stands_for V.Value bytes.now) }
 {
-    match split::<V>(bytes) {
-        Some((numbers, _)) => numbers,
-        None => Numbers::ZERO,
-    }
+    split::<V>(bytes)
+        .map(|(numbers, _)| numbers)
+        .unwrap_or_default()
 }

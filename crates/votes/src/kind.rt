@@ -1,10 +1,12 @@
 // The six kinds of vote by name, with the number and the shape of each.
 ghost use Rattle.std.specs.Prelude.{◌≡◌};
-ghost use Rattle.votes.specs.Votes.{code_of, kind_of, ballot, shape_of};
+ghost use Rattle.votes.specs.Votes.{code_of, Names, ballot, shape_of};
 
 use crate::vote::MAX_CP;
+use std::error::Error;
+use std::fmt;
 
-#[derive(Clone, Copy)]
+#[derive(Clone, Copy, Debug, PartialEq, Eq, Hash)]
 pub enum Kind {
     Proposal,
     Precommit,
@@ -14,8 +16,12 @@ pub enum Kind {
     Announcement,
 }
 
+// A number that no kind has.
+#[derive(Clone, Copy, Debug, PartialEq, Eq, Hash)]
+pub struct UnknownKind(pub u8);
+
 // What a kind asks of its votes: the highest cp, the lowest and the highest val, and whether the value is other than blank.
-#[derive(Clone, Copy)]
+#[derive(Clone, Copy, Debug, PartialEq, Eq)]
 pub struct Shape {
     pub cp: u8,
     pub low: u8,
@@ -45,12 +51,12 @@ impl Shape {
     }
 }
 
-impl Kind {
+impl From<Kind> for u8 {
+    ghost from_gives = { λ kind code. code ≡ code_of kind };
+
     // The number that a frame has for this kind.
-    pub fn code(self) -> u8
-        ensures { result ≡ code_of self }
-    {
-        match self {
+    fn from(kind: Kind) -> u8 {
+        match kind {
             Kind::Proposal => 1,
             Kind::Precommit => 2,
             Kind::PreVote => 3,
@@ -59,22 +65,36 @@ impl Kind {
             Kind::Announcement => 6,
         }
     }
+}
+
+impl TryFrom<u8> for Kind {
+    type Error = UnknownKind;
+
+    ghost try_from_gives = { Names };
 
     // The kind that has this number, if one has.
-    pub fn from_code(code: u8) -> Option<Kind>
-        ensures { result ≡ kind_of code }
-    {
+    fn try_from(code: u8) -> Result<Kind, UnknownKind> {
         match code {
-            1 => Some(Kind::Proposal),
-            2 => Some(Kind::Precommit),
-            3 => Some(Kind::PreVote),
-            4 => Some(Kind::MainVote),
-            5 => Some(Kind::Decided),
-            6 => Some(Kind::Announcement),
-            _ => None,
+            1 => Ok(Kind::Proposal),
+            2 => Ok(Kind::Precommit),
+            3 => Ok(Kind::PreVote),
+            4 => Ok(Kind::MainVote),
+            5 => Ok(Kind::Decided),
+            6 => Ok(Kind::Announcement),
+            _ => Err(UnknownKind(code)),
         }
     }
+}
 
+impl fmt::Display for UnknownKind {
+    fn fmt<W: fmt::Write>(&self, f: &mut fmt::Formatter<W>) -> fmt::Result {
+        write!(f, "no kind of vote has number {}", self.0)
+    }
+}
+
+impl Error for UnknownKind {}
+
+impl Kind {
     pub(crate) fn shape(self) -> Shape
         ensures { result ≡ shape_of self }
     {

@@ -1,6 +1,7 @@
 // The six numbers of a vote, apart from its value.
 
-#[derive(Clone, Copy)]
+// All zero by default, as in the vote that an unreadable frame stands for.
+#[derive(Clone, Copy, Debug, PartialEq, Eq, Default)]
 pub struct Numbers {
     pub kind: u8,
     pub page: u32,
@@ -8,16 +9,4 @@ pub struct Numbers {
     pub house: u8,
     pub cp: u8,
     pub val: u8,
-}
-
-impl Numbers {
-    // Of the vote that an unreadable frame stands for.
-    pub(crate) const ZERO: Numbers = Numbers {
-        kind: 0,
-        page: 0,
-        round: 0,
-        house: 0,
-        cp: 0,
-        val: 0,
-    };
 }

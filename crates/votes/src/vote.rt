@@ -13,14 +13,9 @@ pub const MAX_ROUND: u16 = 63;
 pub const MAX_CP: u8 = 15;
 
 // The numbers have the widths of a frame's fields, so a vote may also be one that no circle takes.
-#[derive(Clone, Copy)]
+#[derive(Clone, Copy, Debug, PartialEq, Eq)]
 pub struct Vote<V> {
-    pub kind: u8,
-    pub page: u32,
-    pub round: u16,
-    pub house: u8,
-    pub cp: u8,
-    pub val: u8,
+    pub numbers: Numbers,
     pub value: V,
 }
 
@@ -30,12 +25,7 @@ impl<V: Value> Vote<V> {
         ensures { result ≡ empty_vote V.Value }
     {
         Vote {
-            kind: 0,
-            page: 0,
-            round: 0,
-            house: 0,
-            cp: 0,
-            val: 0,
+            numbers: Numbers::default(),
             value: V::blank(),
         }
     }
@@ -43,49 +33,42 @@ impl<V: Value> Vote<V> {
     pub fn numbers(&self) -> Numbers
         ensures { result ≡ numbers_of self.now }
     {
-        Numbers {
-            kind: self.kind,
-            page: self.page,
-            round: self.round,
-            house: self.house,
-            cp: self.cp,
-            val: self.val,
-        }
+        self.numbers
     }
 
     fn in_range(&self, houses: u8) -> bool
         ensures { result ≡ in_range houses self.now }
     {
-        self.page <= MAX_PAGE && self.round <= MAX_ROUND && self.house < houses
+        let n = self.numbers;
+        n.page <= MAX_PAGE && n.round <= MAX_ROUND && n.house < houses
     }
 
     fn fits(&self, shape: Shape) -> bool
         ensures { result ≡ fits_shape V.Value shape self.now }
     {
         let blank = self.value.same(&V::blank());
-        self.cp <= shape.cp
-            && shape.low <= self.val
-            && self.val <= shape.high
-            && blank != shape.valued
+        let n = self.numbers;
+        n.cp <= shape.cp && shape.low <= n.val && n.val <= shape.high && blank != shape.valued
     }
 
     // Whether a circle of this many houses has no such vote.
     pub fn is_void(&self, houses: u8) -> bool
         ensures { result ≡ void V.Value houses self.now }
     {
-        match Kind::from_code(self.kind) {
-            Some(kind) => !(self.in_range(houses) && self.fits(kind.shape())),
-            None => true,
+        match Kind::try_from(self.numbers.kind) {
+            Ok(kind) => !(self.in_range(houses) && self.fits(kind.shape())),
+            Err(_) => true,
         }
     }
 
+    // Whether the numbers agree in all but val.
     pub fn shares_slot(&self, other: &Vote<V>) -> bool
         ensures { result ≡ same_slot self.now other.now }
     {
-        self.kind == other.kind
-            && self.page == other.page
-            && self.round == other.round
-            && self.house == other.house
-            && self.cp == other.cp
+        let with_this_val = Numbers {
+            val: self.numbers.val,
+            ..other.numbers
+        };
+        with_this_val == self.numbers
     }
 }

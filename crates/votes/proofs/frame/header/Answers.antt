@@ -4,7 +4,7 @@ use Rattle.votes.proofs.frame.header.Goals as goal
 
 pub returns : goal.returns
 returns g c =
-    let v = c.args.vote in
+    let v = c.args.vote.numbers in
     let kind : Fits w8 v.kind = search rules in
     let house : Fits w8 v.house = search rules in
     let cp : Fits w8 v.cp = search rules in

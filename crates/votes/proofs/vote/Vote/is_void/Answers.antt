@@ -9,7 +9,7 @@ returns-after-in_range g c =
     let G = g.V.Value in
     let v = c.args.self.now in
     let n = c.args.houses in
-    let named = c.in-Some.ensures in
+    let named = c.in-Ok.ensures in
     elim c.if-in_range.branch [
       | then-in_range w ↦
           ap not w.result-is ∙ void-in_range G n v _ named _ w.shape.ensures _ _ c.in_range.ensures w.if-in_range.true w.fits.ensures
@@ -17,5 +17,5 @@ returns-after-in_range g c =
           ap not w.result-is ∙ void_out_of_range G n v _ named _ c.in_range.ensures w.if-in_range.false
     ]
 
-pub returns-in-None : goal.returns-in-None
-returns-in-None g c = void_unnamed g.V.Value c.args.houses c.args.self.now c.in-None.ensures
+pub returns-in-Err : goal.returns-in-Err
+returns-in-Err g c = void_unnamed g.V.Value c.args.houses c.args.self.now c.in-Err.ensures.0
