@@ -7,6 +7,7 @@ ghost use Rattle.text.specs.VoteWords.{vote_text, VoteReads};
 use crate::text_value::TextValue;
 use crate::value_text::{read_value, show_value};
 use std::alloc::{AllocError, Global};
+use votes::numbers::Numbers;
 use votes::vote::Vote;
 use words::number::number_in;
 use words::refusal::Refusal;
@@ -14,16 +15,15 @@ use words::refusal::Refusal;
 pub fn show_vote<V: TextValue>(heap: Global, vote: Vote<V>) -> Result<String, AllocError>
     ensures { IfOk result (λ s. string_bytes s ≡ vote_text V.Value V.TextValue.own vote) }
 {
-    let Vote {
+    let Numbers {
         kind,
         page,
         round,
         house,
         cp,
         val,
-        value,
-    } = vote;
-    let value = show_value(heap, &value)?;
+    } = vote.numbers;
+    let value = show_value(heap, &vote.value)?;
     format!(in heap; "{kind} {page} {round} {house} {cp} {val} {value}")
 }
 
@@ -34,13 +34,14 @@ pub fn read_vote<V: TextValue>(heap: Global, words: &[&str]) -> Result<Vote<V>, 
     let [kind, page, round, house, cp, val, value] = words else {
         return Err(Refusal::Malformed);
     };
-    Ok(Vote {
+    let numbers = Numbers {
         kind: number_in(kind)?,
         page: number_in(page)?,
         round: number_in(round)?,
         house: number_in(house)?,
         cp: number_in(cp)?,
         val: number_in(val)?,
-        value: read_value(heap, value)?,
-    })
+    };
+    let value = read_value(heap, value)?;
+    Ok(Vote { numbers, value })
 }
