@@ -20,17 +20,17 @@ module _ {V : Type 0} (G : Ghosts V) (T : Texts V) where
   -- kind, page, round, house, cp, val, value
   unfoldable pub vote_text : Vote V → List ℕ
   vote_text v =
-      spaced (decimal v.kind ∷ decimal v.page ∷ decimal v.round ∷ decimal v.house ∷ decimal v.cp ∷ decimal v.val ∷ value_text G T v.value ∷ [])
+      spaced (decimal v.numbers.kind ∷ decimal v.numbers.page ∷ decimal v.numbers.round ∷ decimal v.numbers.house ∷ decimal v.numbers.cp ∷ decimal v.numbers.val ∷ value_text G T v.value ∷ [])
 
   -- seven words that write a vote
   pub record VoteWords (words : List (List ℕ)) (v : Vote V) : Type 0 where
     pub seven : length words ≡ 7
-    pub kind : NumberWord 255 (slice_index_or words 0 []) v.kind
-    pub page : NumberWord 4294967295 (slice_index_or words 1 []) v.page
-    pub round : NumberWord 65535 (slice_index_or words 2 []) v.round
-    pub house : NumberWord 255 (slice_index_or words 3 []) v.house
-    pub cp : NumberWord 255 (slice_index_or words 4 []) v.cp
-    pub val : NumberWord 255 (slice_index_or words 5 []) v.val
+    pub kind : NumberWord 255 (slice_index_or words 0 []) v.numbers.kind
+    pub page : NumberWord 4294967295 (slice_index_or words 1 []) v.numbers.page
+    pub round : NumberWord 65535 (slice_index_or words 2 []) v.numbers.round
+    pub house : NumberWord 255 (slice_index_or words 3 []) v.numbers.house
+    pub cp : NumberWord 255 (slice_index_or words 4 []) v.numbers.cp
+    pub val : NumberWord 255 (slice_index_or words 5 []) v.numbers.val
     pub value : ValueReads G T (slice_index_or words 6 []) (Some v.value)
 
   -- a vote is read just where the words write one, and it is that one

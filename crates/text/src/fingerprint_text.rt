@@ -6,7 +6,8 @@ use crate::text_value::TextValue;
 use std::alloc::{AllocError, Global};
 use values::fingerprint::Fingerprint;
 use values::value::Value;
-use words::hex::{read_hex, show_hex};
+use words::hexadecimal::{read_hex, show_hex};
+use words::refusal::Refusal;
 
 impl TextValue for Fingerprint {
     ghost text = { fingerprint_text };
@@ -19,11 +20,8 @@ impl TextValue for Fingerprint {
 
     ghost apart = { fingerprint_apart };
 
-    fn from_word(heap: Global, word: &str) -> Result<Option<Fingerprint>, AllocError> {
-        match read_hex(heap, word)? {
-            Some(bytes) => Ok(Fingerprint::read(bytes.as_slice())),
-            None => Ok(None),
-        }
+    fn from_word(heap: Global, word: &str) -> Result<Fingerprint, Refusal> {
+        Fingerprint::read(&read_hex(heap, word)?).ok_or(Refusal::Malformed)
     }
 
     fn to_word(&self, heap: Global) -> Result<String, AllocError> {

@@ -5,6 +5,7 @@ ghost use Rattle.text.specs.Texts.{rate_single, rate_back, rate_apart};
 use crate::text_value::TextValue;
 use std::alloc::{AllocError, Global};
 use values::rate::Rate;
+use words::refusal::Refusal;
 
 impl TextValue for Rate {
     ghost text = { rate_text };
@@ -17,18 +18,15 @@ impl TextValue for Rate {
 
     ghost apart = { rate_apart };
 
-    fn from_word(_heap: Global, word: &str) -> Result<Option<Rate>, AllocError> {
+    fn from_word(_heap: Global, word: &str) -> Result<Rate, Refusal> {
         if word.starts_with('+') {
-            return Ok(None);
+            return Err(Refusal::Malformed);
         }
-        match word.parse::<i64>() {
-            Ok(amount) => Ok(Some(Rate { amount })),
-            Err(_) => Ok(None),
-        }
+        let amount = word.parse::<i64>().map_err(|_| Refusal::Malformed)?;
+        Ok(Rate { amount })
     }
 
     fn to_word(&self, heap: Global) -> Result<String, AllocError> {
-        let amount = self.amount;
-        format!(in heap; "{amount}")
+        self.amount.to_string(heap)
     }
 }

@@ -1,8 +1,10 @@
 // A kind of value whose values have a text.
 ghost use Rattle.std.specs.Prelude.{◌≡◌, ℕ, List, IfOk, Some, string_bytes, codes, Option as Maybe, ◌≢◌};
+ghost use Rattle.words.specs.Refusals.{IfRead};
 
 use std::alloc::{AllocError, Global};
 use values::value::Value;
+use words::refusal::Refusal;
 
 pub trait TextValue: Value {
     // The text of a value, where that is not blank.
@@ -12,8 +14,8 @@ pub trait TextValue: Value {
     ghost reads: { List ℕ → Maybe Self → Type 0 };
 
     // The value that a word other than `blank` writes, if it writes one.
-    fn from_word(heap: Global, word: &str) -> Result<Option<Self>, AllocError>
-        ensures { IfOk result (λ o. reads word.now o) };
+    fn from_word(heap: Global, word: &str) -> Result<Self, Refusal>
+        ensures { IfRead result (λ o. reads word.now o) };
 
     // The text of a value that is not blank.
     fn to_word(&self, heap: Global) -> Result<String, AllocError>

@@ -1,16 +1,18 @@
 // The text of any value: `blank`, or the text of its kind.
 ghost use Rattle.std.specs.Prelude.{◌≡◌, IfOk, string_bytes};
+ghost use Rattle.words.specs.Refusals.{IfRead};
 ghost use Rattle.text.specs.Values.{value_text, ValueReads, ValueReadsBack};
 
 use crate::text_value::TextValue;
 use std::alloc::{AllocError, Global};
+use words::refusal::Refusal;
 
 // The value that a word writes, if it writes one.
-pub fn read_value<V: TextValue>(heap: Global, word: &str) -> Result<Option<V>, AllocError>
-    ensures { IfOk result (λ o. ValueReads V.Value V.TextValue.own word.now o) }
+pub fn read_value<V: TextValue>(heap: Global, word: &str) -> Result<V, Refusal>
+    ensures { IfRead result (λ o. ValueReads V.Value V.TextValue.own word.now o) }
 {
     if word == "blank" {
-        Ok(Some(V::blank()))
+        Ok(V::blank())
     } else {
         V::from_word(heap, word)
     }

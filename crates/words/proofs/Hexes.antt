@@ -1,96 +1,91 @@
--- Hexadecimal text reads back as the bytes that it was written from, and is read two digits at a time. Assumes nothing.
-use Rattle.std.proofs.Common.{◌≡◌, ℕ, ◌+◌, ◌*◌, ◌/◌, ◌%◌, ◌<◌, Bool, true, false, cond, ◌&&◌, ltb, ◌⊎◌, List, [], ◌∷◌, ◌++◌, length, get_or, take, drop, Some, None, Option, sym, refl, ap, ◌∙◌, ap₂, inl, inr, arith}
-use Rattle.std.proofs.lemmas.List.{drop_more, take_more, append_assoc}
-use Rattle.std.proofs.lemmas.Bool.{and_from, and_left, and_right, lt-ltb, le-ltb, cond-true, cond-false}
+-- Hexadecimal text in the words of this crate is that of the crate `hex`, so it reads back as the bytes that it was written from. Assumes nothing.
+use Rattle.std.proofs.Common.{◌≡◌, ℕ, zero, suc, ◌+◌, ◌*◌, ◌/◌, ◌%◌, ◌<◌, ◌==◌, Bool, true, false, cond, ◌&&◌, ltb, List, [], ◌∷◌, length, get_or, Some, None, Ok, Err, Option, Result, sym, refl, ap, ◌∙◌, ap₂, inl, inr, arith}
+use Rattle.std.proofs.lemmas.Bool.{and_parts, cases_eq, cases_lt, eqb-true}
 use Rattle.std.proofs.lemmas.Bool.Decides.{nat_tests}
 use Rattle.std.specs.Option.{option_map}
+use Rattle.std.specs.Result.{result_ok}
 use Rattle.std.specs.Char.{digit_value, digit_char}
+use Rattle.hex.specs.Hex.{IsBytes, decode_of, decode_pairs, digit_or_error, encode_lower, encode_with, hex_digit_value, lower_digits, ◌>>=◌}
+use Rattle.hex.specs.declared.error.FromHexError.{FromHexError}
+use Rattle.hex.proofs.HexLemmas.{decode_of-encode_lower, decode_of-even, decode_of-odd, decode_pairs-ok}
 use Rattle.words.specs.Hex.{hex_text, hex_bytes}
 use Rattle.values.specs.Bytes.{Octets}
 
--- two characters at the front, digits or not
-hex_pair : (c d : ℕ) (cs : List ℕ) → digit_value c < 16 → digit_value d < 16 → hex_bytes (c ∷ d ∷ cs) ≡ option_map (λ bs. (16 * digit_value c + digit_value d) ∷ bs) (hex_bytes cs)
-hex_pair c d cs p q = cond-true _ _ _ (and_from _ _ (lt-ltb _ 16 p) (lt-ltb _ 16 q))
+-- the digits of the table are those of values below n
+abbrev all_same : ℕ → Bool
+all_same zero = true
+all_same (suc n) = (get_or lower_digits n 0 == digit_char n) && all_same n
 
-hex_pair_first : (c d : ℕ) (cs : List ℕ) → (digit_value c < 16 → ⊥) → hex_bytes (c ∷ d ∷ cs) ≡ None
-hex_pair_first c d cs p = cond-false _ _ _ (and_left _ _ (le-ltb (digit_value c) 16 (omega arith)))
+same_at : (n d : ℕ) → all_same n ≡ true → d < n → get_or lower_digits d 0 ≡ digit_char d
+same_at zero d h below = absurd (omega arith)
+same_at (suc n) d h below =
+    let parts = and_parts (get_or lower_digits n 0 == digit_char n) (all_same n) h in
+    elim (cases_lt d n) [
+      | inl lower ↦ same_at n d parts.1 lower
+      | inr top ↦
+          let e : d ≡ n = omega arith in
+          rw e (eqb-true (get_or lower_digits n 0) (digit_char n) parts.0)
+    ]
 
-hex_pair_second : (c d : ℕ) (cs : List ℕ) → (digit_value d < 16 → ⊥) → hex_bytes (c ∷ d ∷ cs) ≡ None
-hex_pair_second c d cs p = cond-false _ _ _ (and_right _ _ (le-ltb (digit_value d) 16 (omega arith)))
+pub hex_as_encoded : (bs : List ℕ) → Octets bs → encode_lower bs ≡ hex_text bs
+unfolding encode_with
+hex_as_encoded [] h = refl
+hex_as_encoded (b ∷ bs) (fits, more) =
+    ap₂ ◌∷◌ (same_at 16 (b / 16) refl (omega arith)) (ap₂ ◌∷◌ (same_at 16 (b % 16) refl (omega arith)) (hex_as_encoded bs more))
 
-pub char_ascii : (d : ℕ) → d < 16 → digit_char d < 128
-char_ascii d h = grind (arith, nat_tests)
+-- a digit is one here just where it is one there, and with the same value
+digit_read : (c : ℕ) → hex_digit_value c ≡ cond (ltb (digit_value c) 16) (Some (digit_value c)) None
+digit_read c = grind (arith, nat_tests)
 
-value_of_char : (d : ℕ) → d < 16 → digit_value (digit_char d) ≡ d
-value_of_char d h = grind (arith, nat_tests)
+-- two digits of values x and y, or others, before what is read after them
+abbrev before : ℕ → ℕ → ℕ → Option ℕ → Option ℕ → Result (List ℕ) FromHexError → Result (List ℕ) FromHexError
+before a b i o p r =
+    (digit_or_error a i o >>= (λ x. digit_or_error b (i + 1) p >>= (λ y. Ok (x * 16 + y)))) >>= (λ byte. r >>= (λ bytes. Ok (byte ∷ bytes)))
+
+pair_same : (a b i : ℕ) (p q : Bool) (x y : ℕ) (r : Result (List ℕ) FromHexError)
+    → cond (p && q) (option_map (λ bs. (16 * x + y) ∷ bs) (result_ok r)) None ≡ result_ok (before a b i (cond p (Some x) None) (cond q (Some y) None) r)
+pair_same a b i true true x y (Ok bs) = let sum : 16 * x + y ≡ x * 16 + y = omega arith in ap (λ n. Some (n ∷ bs)) sum
+pair_same a b i true true x y (Err e) = refl
+pair_same a b i true false x y r = refl
+pair_same a b i false q x y r = refl
+
+pairs_same : (i : ℕ) (s : List ℕ) → hex_bytes s ≡ result_ok (decode_pairs i s)
+unfolding decode_pairs
+pairs_same i [] = refl
+pairs_same i (a ∷ []) = refl
+pairs_same i (a ∷ b ∷ s) =
+    let x = digit_value a in
+    let y = digit_value b in
+    let r = decode_pairs (i + 2) s in
+    ap (λ o. cond (ltb x 16 && ltb y 16) (option_map (λ bs. (16 * x + y) ∷ bs) o) None) (pairs_same (i + 2) s)
+    ∙ pair_same a b i (ltb x 16) (ltb y 16) x y r
+    ∙ sym (ap₂ (λ o p. result_ok (before a b i o p r)) (digit_read a) (digit_read b))
+
+none_read : {E : Type 0} (r : Result (List ℕ) E) → ((bs : List ℕ) → r ≡ Ok bs → ⊥) → result_ok r ≡ None
+none_read (Ok bs) h = absurd (h bs refl)
+none_read (Err e) h = refl
+
+pub hex_as_decoded : (s : List ℕ) → hex_bytes s ≡ result_ok (decode_of s)
+hex_as_decoded s =
+    elim (cases_eq (length s % 2) 1) [
+      | inl odd ↦
+          pairs_same 0 s
+          ∙ none_read (decode_pairs 0 s) (λ bs read. let long = (decode_pairs-ok 0 s bs read).1 in omega arith)
+          ∙ sym (ap result_ok (decode_of-odd s odd))
+      | inr even ↦ pairs_same 0 s ∙ sym (ap result_ok (decode_of-even s (omega arith)))
+    ]
+
+octet_at : (bs : List ℕ) → Octets bs → IsBytes bs
+octet_at [] h i = omega arith
+octet_at (b ∷ bs) h zero = h.0
+octet_at (b ∷ bs) h (suc i) = octet_at bs h.1 i
 
 pub hex_reads_back : (bs : List ℕ) → Octets bs → hex_bytes (hex_text bs) ≡ Some bs
-hex_reads_back [] h = refl
-hex_reads_back (b ∷ bs) (h, more) =
-    let hi : digit_value (digit_char (b / 16)) ≡ b / 16 = value_of_char (b / 16) (omega arith) in
-    let lo : digit_value (digit_char (b % 16)) ≡ b % 16 = value_of_char (b % 16) (omega arith) in
-    let sum : 16 * digit_value (digit_char (b / 16)) + digit_value (digit_char (b % 16)) ≡ b = omega arith in
-    hex_pair (digit_char (b / 16)) (digit_char (b % 16)) (hex_text bs) (omega arith) (omega arith)
-    ∙ ap (option_map _) (hex_reads_back bs more)
-    ∙ ap (λ n. Some (n ∷ bs)) sum
+hex_reads_back bs small =
+    sym (ap hex_bytes (hex_as_encoded bs small))
+    ∙ hex_as_decoded (encode_lower bs)
+    ∙ ap result_ok (decode_of-encode_lower bs (octet_at bs small))
 
 pub length-hex_text : (bs : List ℕ) → length (hex_text bs) ≡ 2 * length bs
 length-hex_text [] = refl
 length-hex_text (b ∷ bs) = omega (arith, length-hex_text bs)
-
-pub hex_text_push : (bs : List ℕ) (b : ℕ) → hex_text (bs ++ b ∷ []) ≡ hex_text bs ++ (digit_char (b / 16) ∷ digit_char (b % 16) ∷ [])
-hex_text_push [] b = refl
-hex_text_push (a ∷ bs) b = ap (λ cs. digit_char (a / 16) ∷ digit_char (a % 16) ∷ cs) (hex_text_push bs b)
-
--- a byte more of a text
-pub hex_text_more : (bs : List ℕ) (i : ℕ) → i < length bs → (text one two cs ds : List ℕ) → text ≡ hex_text (take i bs) → one ≡ text ++ cs → two ≡ one ++ ds → cs ≡ digit_char (get_or bs i 0 / 16) ∷ [] → ds ≡ digit_char (get_or bs i 0 % 16) ∷ [] → two ≡ hex_text (take (i + 1) bs)
-hex_text_more bs i more text one two cs ds so_far first second c-is d-is =
-    second
-    ∙ ap₂ ◌++◌ (first ∙ ap₂ ◌++◌ so_far c-is) d-is
-    ∙ append_assoc (hex_text (take i bs)) _ _
-    ∙ sym (ap hex_text (take_more bs i 0 more) ∙ hex_text_push (take i bs) (get_or bs i 0))
-
-either_none : (b : Bool) → ◌≡◌ {A = Option (List ℕ)} (cond b None None) None
-either_none true = refl
-either_none false = refl
-
--- a lone digit stands at the end
-pub hex_odd : (cs : List ℕ) → (length cs % 2 ≡ 0 → ⊥) → hex_bytes cs ≡ None
-hex_odd [] odd = absurd (odd refl)
-hex_odd (c ∷ []) odd = refl
-hex_odd (c ∷ d ∷ cs) odd =
-    let none : hex_bytes cs ≡ None = hex_odd cs (λ e. odd (omega arith)) in
-    ap (λ o. cond (ltb (digit_value c) 16 && ltb (digit_value d) 16) (option_map (λ bs. (16 * digit_value c + digit_value d) ∷ bs) o) None) none
-    ∙ either_none (ltb (digit_value c) 16 && ltb (digit_value d) 16)
-
--- the bytes xs before those of an answer
-abbrev pub after : List ℕ → Option (List ℕ) → Option (List ℕ)
-after xs o = option_map (λ bs. xs ++ bs) o
-
-after_more : (xs : List ℕ) (b : ℕ) (o : Option (List ℕ)) → after xs (option_map (λ bs. b ∷ bs) o) ≡ after (xs ++ b ∷ []) o
-after_more xs b None = refl
-after_more xs b (Some bs) = ap Some (sym (append_assoc xs (b ∷ []) bs))
-
--- the loop of `read_hex`, at the pair k of a word
-module _ (cs : List ℕ) (k : ℕ) (more : 2 * k + 1 < length cs) where
-  pair_at : drop (2 * k) cs ≡ get_or cs (2 * k) 0 ∷ get_or cs (2 * k + 1) 0 ∷ drop (2 * (k + 1)) cs
-  pair_at =
-      drop_more cs (2 * k) 0 (omega arith)
-      ∙ ap (λ ys. get_or cs (2 * k) 0 ∷ ys) (drop_more cs (2 * k + 1) 0 more)
-      ∙ ap (λ n. get_or cs (2 * k) 0 ∷ get_or cs (2 * k + 1) 0 ∷ drop n cs) (omega arith)
-
-  pub pair_read : (xs ys : List ℕ) (c d : ℕ) → after xs (hex_bytes (drop (2 * k) cs)) ≡ hex_bytes cs → (digit_value (get_or cs (2 * k) 0) < 16) × (c ≡ digit_value (get_or cs (2 * k) 0)) → (digit_value (get_or cs (2 * k + 1) 0) < 16) × (d ≡ digit_value (get_or cs (2 * k + 1) 0)) → ys ≡ xs ++ (16 * c + d) ∷ [] → after ys (hex_bytes (drop (2 * (k + 1)) cs)) ≡ hex_bytes cs
-  pair_read xs ys c d so_far (p, c-is) (q, d-is) ys-is =
-      let rest = hex_bytes (drop (2 * (k + 1)) cs) in
-      ap (λ zs. after zs rest) ys-is
-      ∙ ap₂ (λ m n. after (xs ++ (16 * m + n) ∷ []) rest) c-is d-is
-      ∙ sym (after_more xs (16 * digit_value (get_or cs (2 * k) 0) + digit_value (get_or cs (2 * k + 1) 0)) rest)
-      ∙ ap (after xs) (sym (hex_pair (get_or cs (2 * k) 0) (get_or cs (2 * k + 1) 0) (drop (2 * (k + 1)) cs) p q) ∙ ap hex_bytes (sym pair_at))
-      ∙ so_far
-
-  pub pair_refused : (xs : List ℕ) → after xs (hex_bytes (drop (2 * k) cs)) ≡ hex_bytes cs → (digit_value (get_or cs (2 * k) 0) < 16 → ⊥) ⊎ (digit_value (get_or cs (2 * k + 1) 0) < 16 → ⊥) → None ≡ hex_bytes cs
-  pair_refused xs so_far which = ap (after xs) (sym (none which) ∙ ap hex_bytes (sym pair_at)) ∙ so_far
-    where
-      none : (digit_value (get_or cs (2 * k) 0) < 16 → ⊥) ⊎ (digit_value (get_or cs (2 * k + 1) 0) < 16 → ⊥) → hex_bytes (get_or cs (2 * k) 0 ∷ get_or cs (2 * k + 1) 0 ∷ drop (2 * (k + 1)) cs) ≡ None
-      none (inl first) = hex_pair_first (get_or cs (2 * k) 0) (get_or cs (2 * k + 1) 0) (drop (2 * (k + 1)) cs) first
-      none (inr second) = hex_pair_second (get_or cs (2 * k) 0) (get_or cs (2 * k + 1) 0) (drop (2 * (k + 1)) cs) second

@@ -1,4 +1,5 @@
 -- The lemmas of this crate, by topic.
+pub mod Refusals
 pub mod Hexes
 pub mod Plus
 pub mod Cutting

@@ -1,6 +1,7 @@
-// The words of a text line, and numbers and bytes as words: digits, and hexadecimal digits.
+// The words of a text line, numbers and bytes as words (digits, and hexadecimal digits), and why they are refused.
 #![tactic(auto)]
 
-pub mod hex;
+pub mod hexadecimal;
 pub mod line;
 pub mod number;
+pub mod refusal;

@@ -8,6 +8,6 @@ pub returns : goal.returns
 unfolding vote_text
 returns g c =
     let v = c.args.vote in
-    let words = λ (t : List ℕ). spaced (decimal v.kind ∷ decimal v.page ∷ decimal v.round ∷ decimal v.house ∷ decimal v.cp ∷ decimal v.val ∷ t ∷ []) in
+    let words = λ (t : List ℕ). spaced (decimal v.numbers.kind ∷ decimal v.numbers.page ∷ decimal v.numbers.round ∷ decimal v.numbers.house ∷ decimal v.numbers.cp ∷ decimal v.numbers.val ∷ t ∷ []) in
     let shown = c.in_ok-value.ensures.made in
     IfOk-weaker c.format.result _ (λ s. string_bytes s ≡ vote_text g.V.Value g.V.TextValue v) (λ s e. simp append_assoc at e ∙ ap words shown) c.format.ensures.ok
