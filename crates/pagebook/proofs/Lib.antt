@@ -1,8 +1,2 @@
--- The lemmas of this crate, by topic.
-pub mod Reading
+-- The lemmas of the program, by topic.
 pub mod Listing
-pub mod Replying
-pub mod Filling
-pub mod Preparing
-pub mod Ignored
-pub mod Telling

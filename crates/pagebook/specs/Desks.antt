@@ -1,6 +1,6 @@
 -- What a desk holds, and what each command answers and leaves. Assumes nothing.
-use Rattle.std.specs.Prelude.{◌≡◌, ℕ, ◌+◌, Bool, true, false, cond, List, ◌++◌, length, take, drop, replicate, Some, None, vec_items, string_bytes, codes, Option, String, nat_le, nat_lt, slice_set}
-use Rattle.std.specs.Option.{option_map}
+use Rattle.std.specs.Prelude.{◌≡◌, ℕ, ◌+◌, Bool, false, true, cond, List, ◌++◌, length, take, drop, replicate, Some, None, Ok, Err, vec_items, string_bytes, codes, Option, Result, String, nat_le, nat_lt, slice_set}
+use Rattle.std.specs.Option.{option_and_then, option_map}
 use Rattle.std.specs.declared.alloc.Global.{Global}
 use Rattle.pagebook.specs.Answers.{frame_answer, read_answer, check_answer, sent_answer, look_answer}
 use Rattle.pagebook.specs.declared.command.Command.{Command}
@@ -11,22 +11,24 @@ use Rattle.pagebook.specs.declared.memory.Memory.{Memory}
 use Rattle.pagebook.specs.declared.memory.Memory.TheVariants as memories
 use Rattle.posts.specs.Memories.{memory_check, table_capacity, table_votes, table_after, frame_capacity, frame_votes, with_frame, bytes_after}
 use Rattle.posts.specs.Posts.{sent, after_send}
+use Rattle.posts.specs.declared.fault.Fault.{Fault}
 use Rattle.posts.specs.declared.fault.Layer.TheVariants as layers
 use Rattle.text.specs.declared.text_value.TextValue.{Ghosts as Texts}
 use Rattle.votes.specs.Frames.{frame}
 use Rattle.votes.specs.Votes.{empty_vote}
 use Rattle.values.specs.declared.value.Value.{Ghosts}
 use Rattle.votes.specs.declared.vote.Vote.{Vote}
+use Rattle.words.specs.declared.refusal.Refusal.{Refusal}
+use Rattle.words.specs.declared.refusal.Refusal.TheVariants.{Malformed}
 
--- the memory of a post: none yet, records, or bytes
+-- the memory of a post: records, or bytes
 pub data Held (V : Type 0) : Type 0 where
-  nothing : Held V
   records : List (Vote V) → Held V
   octets : List ℕ → Held V
 
--- a desk: its memory, the count of its post, and whether the post was called
+-- a desk: the memory that was laid, if any, the count of its post, and whether the post was called
 pub record View (V : Type 0) : Type 0 where
-  pub held : Held V
+  pub held : Option (Held V)
   pub count : ℕ
   pub called : Bool
 
@@ -37,16 +39,15 @@ pub record Reply (V : Type 0) : Type 0 where
 
 module _ {V : Type 0} where
   abbrev pub held_in : Memory V → Held V
-  held_in memories.Absent = nothing
   held_in (memories.Table table) = records (vec_items table)
   held_in (memories.Frames bytes) = octets (vec_items bytes)
 
   abbrev pub view : Desk V → View V
-  view d = record { held = held_in d.memory; count = d.count; called = d.called }
+  view d = record { held = option_map held_in d.memory; count = d.count; called = d.called }
 
   -- a desk with no post
   abbrev pub bare : View V
-  bare = record { held = nothing; count = 0; called = false }
+  bare = record { held = None; count = 0; called = false }
 
   -- a desk that is refused stays as it was
   abbrev pub left_by : Option (Reply V) → View V → View V
@@ -58,81 +59,81 @@ module _ {V : Type 0} where
   Replied reply answer before after = (option_map string_bytes answer ≡ option_map (λ r. r.text) reply) × (after ≡ left_by reply before)
 
   -- memory for a post is laid once
-  abbrev pub laid : Reply V → Held V → Option (Reply V)
-  laid reply nothing = Some reply
-  laid reply (records table) = None
-  laid reply (octets bytes) = None
-
-  abbrev pub lay : Held V → List ℕ → ℕ → View V → Option (Reply V)
-  lay memory text count before =
-      laid (record { text = text; desk = record { held = memory; count = count; called = before.called } }) before.held
+  abbrev pub laid : Reply V → Option (Held V) → Option (Reply V)
+  laid reply None = Some reply
+  laid reply (Some memory) = None
 
   -- memory is written only before the post is called
-  abbrev pub prepare : Option (Held V) → View V → Option (Reply V)
-  prepare memory before =
-      cond before.called None (option_map (λ m. record { text = codes "0"; desk = record { held = m; count = before.count; called = before.called } }) memory)
+  abbrev pub prepare : (Held V → Option (Held V)) → View V → Option (Reply V)
+  prepare write before =
+      cond before.called None (option_map (λ m. record { text = codes "0"; desk = record { held = Some m; count = before.count; called = before.called } }) (option_and_then write before.held))
+
+  -- the memory is written, or that is refused and it stays as it was
+  abbrev pub Writes : Option (Held V) → Result (Unit {0}) Refusal → Held V → Held V → Type 0
+  Writes None result before after = (result ≡ Err Malformed) × (after ≡ before)
+  Writes (Some new) result before after = (result ≡ Ok tt) × (after ≡ new)
 
   -- bytes written over the memory from an offset on, where they lie inside it
   abbrev pub poked : ℕ → List ℕ → Held V → Option (Held V)
-  poked offset new nothing = None
   poked offset new (records table) = None
   poked offset new (octets bytes) =
       cond (nat_le (offset + length new) (length bytes)) (Some (octets (take offset bytes ++ (new ++ drop (offset + length new) bytes)))) None
 
-module _ {V : Type 0} (G : Ghosts V) (T : Texts V) where
+module _ {V : Type 0} (G : Ghosts V) where
+  abbrev pub capacity_of : Held V → ℕ
+  capacity_of (records table) = table_capacity table
+  capacity_of (octets bytes) = frame_capacity G bytes
+
+  abbrev pub lay : Held V → ℕ → View V → Option (Reply V)
+  lay memory count before =
+      laid (record { text = check_answer (memory_check (capacity_of memory)); desk = record { held = Some memory; count = count; called = before.called } }) before.held
+
   -- a vote written into the record or the frame at a place below the capacity
   abbrev pub filled : ℕ → Vote V → Held V → Option (Held V)
-  filled place v nothing = None
   filled place v (records table) = cond (nat_lt place (table_capacity table)) (Some (records (slice_set table place v))) None
   filled place v (octets bytes) =
       cond (nat_lt place (frame_capacity G bytes)) (Some (octets (with_frame G place bytes (frame G v)))) None
 
+  -- what a post with a count answers to a send
+  abbrev pub sent_to : ℕ → Held V → Result (Unit {0}) Fault
+  sent_to count (records table) = sent layers.Table (table_capacity table) (table_votes count table)
+  sent_to count (octets bytes) = sent layers.Frame (frame_capacity G bytes) (frame_votes G count bytes)
+
+  -- the memory after it, and the count of the post
+  abbrev pub memory_after : Vote V → ℕ → Held V → Held V
+  memory_after v count (records table) = records (table_after count table v)
+  memory_after v count (octets bytes) = octets (bytes_after G count bytes v)
+
+  abbrev pub count_after : Vote V → ℕ → Held V → ℕ
+  count_after v count (records table) = length (after_send (table_capacity table) (table_votes count table) v)
+  count_after v count (octets bytes) = length (after_send (frame_capacity G bytes) (frame_votes G count bytes) v)
+
   -- a vote sent to the post, which takes it at its end or refuses it
-  abbrev pub send_reply : Vote V → ℕ → Held V → Option (Reply V)
-  send_reply v count nothing = None
-  send_reply v count (records table) =
-      let capacity = table_capacity table in
-      let votes = table_votes count table in
-      Some (record {
-        text = sent_answer (sent layers.Table capacity votes);
-        desk = record { held = records (table_after count table v); count = length (after_send capacity votes v); called = true };
-      })
-  send_reply v count (octets bytes) =
-      let capacity = frame_capacity G bytes in
-      let votes = frame_votes G count bytes in
-      Some (record {
-        text = sent_answer (sent layers.Frame capacity votes);
-        desk = record { held = octets (bytes_after G count bytes v); count = length (after_send capacity votes v); called = true };
-      })
+  abbrev pub send_reply : Vote V → View V → Option (Reply V)
+  send_reply v before =
+      option_map (λ m. record {
+        text = sent_answer (sent_to before.count m);
+        desk = record { held = Some (memory_after v before.count m); count = count_after v before.count m; called = true };
+      }) before.held
+
+module _ {V : Type 0} (G : Ghosts V) (T : Texts V) where
+  -- what a look at the post with a count shows
+  abbrev pub shown : Look → ℕ → Held V → List ℕ
+  shown look count (records table) = look_answer G T layers.Table (table_votes count table) look
+  shown look count (octets bytes) = look_answer G T layers.Frame (frame_votes G count bytes) look
 
   -- a look at the post, which stays as it is
-  abbrev pub look_text : Look → ℕ → Held V → Option (List ℕ)
-  look_text look count nothing = None
-  look_text look count (records table) = Some (look_answer G T layers.Table (table_votes count table) look)
-  look_text look count (octets bytes) = Some (look_answer G T layers.Frame (frame_votes G count bytes) look)
-
   abbrev pub look_reply : Look → View V → Option (Reply V)
   look_reply look before =
-      option_map (λ t. record { text = t; desk = record { held = before.held; count = before.count; called = true } }) (look_text look before.count before.held)
+      option_map (λ m. record { text = shown look before.count m; desk = record { held = before.held; count = before.count; called = true } }) before.held
 
-  -- a table of empty records, or zero bytes
-  abbrev pub table_reply : ℕ → ℕ → View V → Option (Reply V)
-  table_reply n count before =
-      let table = replicate n (empty_vote G) in
-      lay (records table) (check_answer (memory_check (table_capacity table))) count before
-
-  abbrev pub frames_reply : ℕ → ℕ → View V → Option (Reply V)
-  frames_reply n count before =
-      let bytes = replicate n 0 in
-      lay (octets bytes) (check_answer (memory_check (frame_capacity G bytes))) count before
-
-  -- what a command answers and leaves, or none where it is not allowed
+  -- what a command answers and leaves, or none where it is not allowed: a table is laid of empty records, and frames in zero bytes
   abbrev pub reply : Command V → View V → Option (Reply V)
   reply (commands.Frame v) before = Some (record { text = frame_answer G v; desk = before })
   reply (commands.Read bytes) before = Some (record { text = read_answer G T (vec_items bytes); desk = before })
-  reply (commands.Table n count) before = table_reply n count before
-  reply (commands.Frames n count) before = frames_reply n count before
-  reply (commands.Fill place v) before = prepare (filled place v before.held) before
-  reply (commands.Poke offset bytes) before = prepare (poked offset (vec_items bytes) before.held) before
-  reply (commands.Send v) before = send_reply v before.count before.held
+  reply (commands.Table n count) before = lay G (records (replicate n (empty_vote G))) count before
+  reply (commands.Frames n count) before = lay G (octets (replicate n 0)) count before
+  reply (commands.Fill place v) before = prepare (filled G place v) before
+  reply (commands.Poke offset bytes) before = prepare (poked offset (vec_items bytes)) before
+  reply (commands.Send v) before = send_reply G v before
   reply (commands.Look look) before = look_reply look before

@@ -3,16 +3,11 @@ use Rattle.std.specs.Prelude.{◌≡◌, ℕ, List, ◌++◌, Some, None, Ok, Er
 use Rattle.pagebook.specs.Commands.{CommandReads}
 use Rattle.pagebook.specs.Desks.{View, Reply, view, bare, reply}
 use Rattle.pagebook.specs.declared.command.Command.{Command}
-use Rattle.pagebook.specs.declared.session.Outcome.{Outcome}
-use Rattle.pagebook.specs.declared.session.Outcome.TheVariants.{Silent, Printed, Refused}
 use Rattle.pagebook.specs.Stages.{ignored, stage_named}
-use Rattle.pagebook.specs.declared.fault.Fault.{Fault}
-use Rattle.pagebook.specs.declared.fault.Fault.TheVariants as faults
 use Rattle.pagebook.specs.declared.session.Session.{Session}
 use Rattle.pagebook.specs.declared.session.Session.TheVariants as sessions
 use Rattle.pagebook.specs.declared.session.Stage.{Stage}
 use Rattle.pagebook.specs.declared.session.Stage.TheVariants.{Start, Rates, Fingerprints}
-use Rattle.std.specs.declared.alloc.AllocError.{AllocError}
 use Rattle.std.specs.declared.alloc.Global.{Global}
 use Rattle.text.specs.contracts.fingerprint_text.FingerprintTextValue.TheImpl.{ghosts as fingerprint_texts}
 use Rattle.text.specs.contracts.rate_text.RateTextValue.TheImpl.{ghosts as rate_texts}
@@ -23,24 +18,32 @@ use Rattle.values.specs.declared.fingerprint.Fingerprint.{Fingerprint}
 use Rattle.values.specs.declared.rate.Rate.{Rate}
 use Rattle.values.specs.declared.value.Value.{Ghosts}
 use Rattle.words.specs.Lines.{Cut}
+use Rattle.words.specs.declared.refusal.Refusal.{Refusal}
+use Rattle.words.specs.declared.refusal.Refusal.TheVariants.{Malformed, OutOfMemory}
+
+-- what a line gets: it is ignored, it prints a text, or it is malformed or not allowed where it stands
+pub data Outcome : Type 0 where
+  silent : Outcome
+  printed : String Global → Outcome
+  refused : Outcome
 
 -- a line that is answered prints itself, an arrow and the answer
 abbrev pub PrintsAnswer : List ℕ → Outcome → List ℕ → Type 0
-PrintsAnswer line Silent answer = ⊥
-PrintsAnswer line (Printed text) answer = string_bytes text ≡ line ++ (codes " -> " ++ answer)
-PrintsAnswer line Refused answer = ⊥
+PrintsAnswer line silent answer = ⊥
+PrintsAnswer line (printed text) answer = string_bytes text ≡ line ++ (codes " -> " ++ answer)
+PrintsAnswer line refused answer = ⊥
 
 module _ {V : Type 0} where
   -- a line that is refused leaves the desk as it was, and one that is answered leaves what its reply says
   abbrev pub Told : List ℕ → Option (Reply V) → Outcome → View V → View V → Type 0
   Told line r outcome before after =
-      MatchOption r ((outcome ≡ Refused) × (after ≡ before)) (λ a. PrintsAnswer line outcome a.text × (after ≡ a.desk))
+      MatchOption r ((outcome ≡ refused) × (after ≡ before)) (λ a. PrintsAnswer line outcome a.text × (after ≡ a.desk))
 
 -- a line is cut into words, the words write a command, and the desk replies to it; or the line is refused
 abbrev pub Answers : {V : Type 0} (G : Ghosts V) (T : Texts V) → List ℕ → Outcome → View V → View V → Type 0
 Answers {V} G T line outcome before after =
     (words : List (List ℕ)) × Cut line words × (command : Option (Command V)) × CommandReads G T words command
-    × MatchOption command ((outcome ≡ Refused) × (after ≡ before)) (λ c. Told line (reply G T c before) outcome before after)
+    × MatchOption command ((outcome ≡ refused) × (after ≡ before)) (λ c. Told line (reply G T c before) outcome before after)
 
 -- what is seen of a session: no kind of value named yet, or one with the view of its desk
 pub data SessionView : Type 0 where
@@ -68,7 +71,7 @@ begun Fingerprints = fingerprints bare
 -- the first line names the kind of value, and those after it are commands
 abbrev pub Speaks : SessionView → List ℕ → Outcome → SessionView → Type 0
 Speaks start line outcome after =
-    MatchOption (stage_named line) ((outcome ≡ Refused) × (after ≡ start)) (λ named. PrintsAnswer line outcome (codes "0") × (after ≡ begun named))
+    MatchOption (stage_named line) ((outcome ≡ refused) × (after ≡ start)) (λ named. PrintsAnswer line outcome (codes "0") × (after ≡ begun named))
 Speaks (rates d) line outcome after = (e : View Rate) × (after ≡ rates e) × Answers rate_values rate_texts line outcome d e
 Speaks (fingerprints d) line outcome after =
     (e : View Fingerprint) × (after ≡ fingerprints e) × Answers fingerprint_values fingerprint_texts line outcome d e
@@ -76,29 +79,17 @@ Speaks (fingerprints d) line outcome after =
 -- an ignored line prints nothing and leaves the session; so does one that is no text, but it is refused
 abbrev pub Replies : SessionView → List ℕ → Outcome → SessionView → Type 0
 Replies before line outcome after =
-    MatchBool (ignored line) ((outcome ≡ Silent) × (after ≡ before))
-    ((IsUtf8 line → Speaks before line outcome after) × ((IsUtf8 line → ⊥) → (outcome ≡ Refused) × (after ≡ before)))
+    MatchBool (ignored line) ((outcome ≡ silent) × (after ≡ before))
+    ((IsUtf8 line → Speaks before line outcome after) × ((IsUtf8 line → ⊥) → (outcome ≡ refused) × (after ≡ before)))
 
--- what a line prints, or that it is refused or memory ran out
-abbrev pub printed : Result Outcome AllocError → Result (Option (String Global)) (Unit {0})
-printed (Ok Silent) = Ok None
-printed (Ok (Printed text)) = Ok (Some text)
-printed (Ok Refused) = Err tt
-printed (Err e) = Err tt
+-- what a line that is not ignored got, unless memory ran out
+abbrev pub spoken : Option (String Global) → Outcome
+spoken None = refused
+spoken (Some text) = printed text
 
 -- what a line got, unless memory ran out
-abbrev pub outcome_of : Result (Option (String Global)) Fault → Option Outcome
-outcome_of (Ok None) = Some Silent
-outcome_of (Ok (Some text)) = Some (Printed text)
-outcome_of (Err faults.Malformed) = Some Refused
-outcome_of (Err faults.Memory) = None
-outcome_of (Err (faults.Unopened name e)) = None
-outcome_of (Err (faults.Stream e)) = None
-
--- the only errors of a line: it is malformed, or memory ran out
-abbrev pub OnlyMalformedOrMemory : Result (Option (String Global)) Fault → Type 0
-OnlyMalformedOrMemory (Ok _) = Unit {0}
-OnlyMalformedOrMemory (Err faults.Malformed) = Unit {0}
-OnlyMalformedOrMemory (Err faults.Memory) = Unit {0}
-OnlyMalformedOrMemory (Err (faults.Unopened name e)) = ⊥
-OnlyMalformedOrMemory (Err (faults.Stream e)) = ⊥
+abbrev pub outcome_of : Result (Option (String Global)) Refusal → Option Outcome
+outcome_of (Ok None) = Some silent
+outcome_of (Ok (Some text)) = Some (printed text)
+outcome_of (Err Malformed) = Some refused
+outcome_of (Err OutOfMemory) = None

@@ -11,19 +11,15 @@ use text::text_value::TextValue;
 use text::vote_text::show_vote;
 use votes::frame::{frame_size, is_readable, read_frame, write_frame};
 use votes::vote::Vote;
-use words::hex::show_hex;
-
-// The widest frame is that of a value of 32 bytes.
-const WIDEST: usize = 45;
+use words::hexadecimal::show_hex;
 
 // A vote's frame in hexadecimal.
 pub(crate) fn frame_text<V: TextValue>(heap: Global, vote: Vote<V>) -> Result<String, AllocError>
     ensures { IfOk result (λ s. string_bytes s ≡ frame_answer V.Value vote) }
 {
-    let mut buffer = [0; WIDEST];
-    let frame = &mut buffer[0..frame_size::<V>()];
-    let _ = write_frame(vote, frame);
-    show_hex(heap, frame)
+    let mut frame = vec![in heap; 0; frame_size::<V>()]?;
+    let _ = write_frame(vote, frame.as_mut_slice());
+    show_hex(heap, frame.as_slice())
 }
 
 // The vote in a frame, or that the frame is unreadable.

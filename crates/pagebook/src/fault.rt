@@ -1,14 +1,11 @@
 // Why the program stops early.
-ghost use Rattle.std.specs.Prelude.{◌≡◌};
-ghost use Rattle.pagebook.specs.declared.fault.Fault.TheVariants.{Memory as memory};
-
-use std::alloc::AllocError;
 use std::{fmt, io};
+use words::refusal::Refusal;
 
-#[derive(Drop)]
+#[derive(Debug, Drop)]
 pub(crate) enum Fault {
-    // The line is not in the grammar, or not allowed where it stands.
-    Malformed,
+    // The line of this number is not in the grammar, or not allowed where it stands.
+    Malformed(u64),
     // No memory was left.
     Memory,
     // A file that was named could not be opened.
@@ -17,11 +14,13 @@ pub(crate) enum Fault {
     Stream(io::Error),
 }
 
-impl From<AllocError> for Fault {
-    ghost from_gives = { λ _ e. e ≡ memory };
-
-    fn from(_e: AllocError) -> Fault {
-        Fault::Memory
+impl Fault {
+    // Why a line with a number was refused.
+    pub(crate) fn at(number: u64, refusal: Refusal) -> Fault {
+        match refusal {
+            Refusal::Malformed => Fault::Malformed(number),
+            Refusal::OutOfMemory => Fault::Memory,
+        }
     }
 }
 
@@ -34,7 +33,7 @@ impl From<io::Error> for Fault {
 impl fmt::Display for Fault {
     fn fmt<W: fmt::Write>(&self, f: &mut fmt::Formatter<W>) -> fmt::Result {
         match self {
-            Fault::Malformed => write!(f, "malformed input"),
+            Fault::Malformed(number) => write!(f, "line {number}: malformed"),
             Fault::Memory => write!(f, "no memory is left"),
             Fault::Unopened(name, e) => write!(f, "cannot open {name}: {e}"),
             Fault::Stream(e) => write!(f, "standard input or output failed: {e}"),

@@ -1,127 +1,112 @@
-// The memory of a post, and the calls on a post over it.
-ghost use Rattle.std.specs.Prelude.{◌≡◌, ◌+◌, ◌++◌, length, take, drop, replicate, IfOk, if◌then◌else◌, string_bytes, nat_le, nat_lt, slice_set};
-ghost use Rattle.pagebook.specs.Answers.{look_answer};
-ghost use Rattle.posts.specs.Memories.{table_capacity, table_votes, table_after, frame_capacity, frame_votes, with_frame, bytes_after};
-ghost use Rattle.posts.specs.Posts.{sent, after_send};
-ghost use Rattle.posts.specs.declared.fault.Layer.TheVariants.{Table as table_layer, Frame as frame_layer};
-ghost use Rattle.votes.specs.Frames.{frame};
-ghost use Rattle.votes.specs.Votes.{empty_vote};
+// The memory of a post, of either kind, and the calls on a post over it.
+ghost use Rattle.std.specs.Prelude.{◌≡◌, IfOk, MatchBool, length, string_bytes};
+ghost use Rattle.pagebook.specs.Desks.{Writes, capacity_of, count_after, filled, held_in, memory_after, poked, sent_to, shown};
+ghost use Rattle.posts.specs.Memories.{cut, held, memory_check};
+ghost use Rattle.posts.specs.Posts.{after_send, has_room, sent};
 
 use super::answers::look_text;
 use super::command::Look;
 use posts::fault::Fault;
-use posts::frame_post::FramePost;
+use posts::frames::Frames;
+use posts::memory::{Memory as PostMemory, TooSmall};
+use posts::memory_post::MemoryPost;
 use posts::post::Post;
-use posts::table_post::TablePost;
+use posts::table::Table;
 use std::alloc::{AllocError, Global};
 use text::text_value::TextValue;
-use values::value::Value;
 use votes::vote::Vote;
+use words::refusal::Refusal;
 
 #[derive(Drop)]
 pub(crate) enum Memory<V> {
-    Absent,
     Table(Vec<Vote<V>>),
     Frames(Vec<u8>),
 }
 
-// A table of empty records.
-pub(crate) fn empty_table<V: Value>(
-    heap: Global,
-    records: usize,
-) -> Result<Vec<Vote<V>>, AllocError>
-    ensures { IfOk result (λ table. table.items ≡ replicate records (empty_vote V.Value)) }
-{
-    let mut table = Vec::new(heap);
-    for _ in 0..records {
-        table.push(Vote::empty())?;
-    }
-    Ok(table)
-}
-
-pub(crate) fn send_to_table<V: Value>(
-    table: &mut [Vote<V>],
+// Sends a vote to a post over any memory, and keeps the count that the post has then.
+fn send_to<M: PostMemory>(
+    post: &mut MemoryPost<M>,
     count: &mut usize,
-    vote: &Vote<V>,
+    vote: &Vote<M::Value>,
 ) -> Result<(), Fault>
-    ensures value { result ≡ sent table_layer (table_capacity table.old) (table_votes count.old table.old) }
-    ensures memory { table.new ≡ table_after count.old table.old vote.now }
-    ensures count { count.new ≡ length (after_send (table_capacity table.old) (table_votes count.old table.old) vote.now) }
+    ensures value { result ≡ sent M.layer (cut (M.places post.old.memory)) (held post.old.count (M.votes post.old.memory)) }
+    ensures memory {
+        MatchBool (has_room (cut (M.places post.old.memory)) (held post.old.count (M.votes post.old.memory)))
+        (M.Puts (length (held post.old.count (M.votes post.old.memory))) vote.now post.old.memory post.new.memory)
+        (post.new.memory ≡ post.old.memory)
+    }
+    ensures count { count.new ≡ length (after_send (cut (M.places post.old.memory)) (held post.old.count (M.votes post.old.memory)) vote.now) }
 {
-    let mut post = TablePost::new(table, *count);
     let sent = post.send(vote);
     *count = post.count();
     sent
 }
 
-pub(crate) fn send_to_frames<V: Value>(
-    bytes: &mut [u8],
-    count: &mut usize,
-    vote: &Vote<V>,
-) -> Result<(), Fault>
-    ensures value { result ≡ sent frame_layer (frame_capacity V.Value bytes.old) (frame_votes V.Value count.old bytes.old) }
-    ensures memory { bytes.new ≡ bytes_after V.Value count.old bytes.old vote.now }
-    ensures count { count.new ≡ length (after_send (frame_capacity V.Value bytes.old) (frame_votes V.Value count.old bytes.old) vote.now) }
-{
-    let mut post = FramePost::new(bytes, *count);
-    let sent = post.send(vote);
-    *count = post.count();
-    sent
-}
-
-// Writes the vote into the record at a place below the capacity.
-pub(crate) fn fill_table<V: Value>(table: &mut [Vote<V>], place: usize, vote: &Vote<V>) -> bool
-    ensures value { result ≡ nat_lt place (table_capacity table.old) }
-    ensures memory { table.new ≡ (if result then slice_set table.old place vote.now else table.old) }
-{
-    // A post that starts at the place sends there.
-    let mut count = place;
-    send_to_table(table, &mut count, vote).is_ok()
-}
-
-// Writes the vote into the frame at a place below the capacity.
-pub(crate) fn fill_frames<V: Value>(bytes: &mut [u8], place: usize, vote: &Vote<V>) -> bool
-    ensures value { result ≡ nat_lt place (frame_capacity V.Value bytes.old) }
-    ensures memory { bytes.new ≡ (if result then with_frame V.Value place bytes.old (frame V.Value vote.now) else bytes.old) }
-{
-    let mut count = place;
-    send_to_frames(bytes, &mut count, vote).is_ok()
-}
-
-// Writes bytes from an offset on, where they lie inside the memory.
-pub(crate) fn poke(bytes: &mut [u8], offset: usize, new: &[u8]) -> bool
-    ensures value { result ≡ nat_le (offset + length new.now) (length bytes.old) }
-    ensures memory { bytes.new ≡ (if result then take offset bytes.old ++ (new.now ++ drop (offset + length new.now) bytes.old) else bytes.old) }
-{
-    if offset > bytes.len() || new.len() > bytes.len() - offset {
-        return false;
+impl<V: TextValue> Memory<V> {
+    // Whether the memory can hold a vote.
+    pub(crate) fn check(&self) -> Result<(), TooSmall>
+        ensures { result ≡ memory_check (capacity_of V.Value (held_in self.now)) }
+    {
+        match self {
+            Memory::Table(table) => Table::check(table.as_slice()),
+            Memory::Frames(bytes) => Frames::<V>::check(bytes.as_slice()),
+        }
     }
-    bytes[offset..offset + new.len()].copy_from_slice(new);
-    true
-}
 
-pub(crate) fn look_at_table<V: TextValue>(
-    heap: Global,
-    table: &mut [Vote<V>],
-    count: usize,
-    look: Look,
-) -> Result<String, AllocError>
-    ensures value { IfOk result (λ s. string_bytes s ≡ look_answer V.Value V.TextValue.own table_layer (table_votes count table.old) look) }
-    ensures same { table.new ≡ table.old }
-{
-    let post = TablePost::new(table, count);
-    look_text(heap, &post, look)
-}
+    // Sends a vote to the post with a count, and keeps the count that it has then.
+    pub(crate) fn send(&mut self, count: &mut usize, vote: &Vote<V>) -> Result<(), Fault>
+        ensures value { result ≡ sent_to V.Value count.old (held_in self.old) }
+        ensures memory { held_in self.new ≡ memory_after V.Value vote.now count.old (held_in self.old) }
+        ensures count { count.new ≡ count_after V.Value vote.now count.old (held_in self.old) }
+    {
+        match self {
+            Memory::Table(table) => {
+                let mut post = MemoryPost::new(Table::over(table.as_mut_slice()), *count);
+                send_to(&mut post, count, vote)
+            }
+            Memory::Frames(bytes) => {
+                let mut post = MemoryPost::new(Frames::over(bytes.as_mut_slice()), *count);
+                send_to(&mut post, count, vote)
+            }
+        }
+    }
 
-pub(crate) fn look_at_frames<V: TextValue>(
-    heap: Global,
-    bytes: &mut [u8],
-    count: usize,
-    look: Look,
-) -> Result<String, AllocError>
-    ensures value { IfOk result (λ s. string_bytes s ≡ look_answer V.Value V.TextValue.own frame_layer (frame_votes V.Value count bytes.old) look) }
-    ensures same { bytes.new ≡ bytes.old }
-{
-    let post = FramePost::<V>::new(bytes, count);
-    look_text(heap, &post, look)
+    // Writes a vote at a place below the capacity: a post that starts there sends there.
+    pub(crate) fn fill(&mut self, place: usize, vote: &Vote<V>) -> Result<(), Refusal>
+        ensures { Writes (filled V.Value place vote.now (held_in self.old)) result (held_in self.old) (held_in self.new) }
+    {
+        let mut count = place;
+        self.send(&mut count, vote).map_err(|_| Refusal::Malformed)
+    }
+
+    // Writes bytes from an offset on, where they lie inside the bytes of frames.
+    pub(crate) fn poke(&mut self, offset: usize, new: &[u8]) -> Result<(), Refusal>
+        ensures { Writes (poked offset new.now (held_in self.old)) result (held_in self.old) (held_in self.new) }
+    {
+        let Memory::Frames(bytes) = self else {
+            return Err(Refusal::Malformed);
+        };
+        if offset > bytes.len() || new.len() > bytes.len() - offset {
+            return Err(Refusal::Malformed);
+        }
+        bytes[offset..offset + new.len()].copy_from_slice(new);
+        Ok(())
+    }
+
+    // What a look at the post with a count shows.
+    pub(crate) fn look(&mut self, heap: Global, count: usize, look: Look) -> Result<String, AllocError>
+        ensures value { IfOk result (λ s. string_bytes s ≡ shown V.Value V.TextValue.own look count (held_in self.old)) }
+        ensures same { held_in self.new ≡ held_in self.old }
+    {
+        match self {
+            Memory::Table(table) => {
+                let post = MemoryPost::new(Table::over(table.as_mut_slice()), count);
+                look_text(heap, &post, look)
+            }
+            Memory::Frames(bytes) => {
+                let post = MemoryPost::new(Frames::<V>::over(bytes.as_mut_slice()), count);
+                look_text(heap, &post, look)
+            }
+        }
+    }
 }

@@ -1,80 +1,107 @@
-// The post over any memory: how many of the memory's votes are those of the post.
-ghost use Rattle.std.specs.Prelude.{◌≡◌, MatchBool, length, min};
-ghost use Rattle.posts.specs.Memories.{cut, cut_limited, held, held_within};
+// The post over memory of any layout: how many of the votes that stand there are those of the post.
+ghost use Rattle.std.specs.Prelude.{◌≡◌, if◌then◌else◌, length, min};
+ghost use Rattle.posts.specs.Memories.{cut, cut_limited, held, held_within, memory_check};
 ghost use Rattle.posts.specs.Posts.{after_send, has_room, sent};
 
 use crate::fault::Fault;
 use crate::frames::Frames;
-use crate::memory::{Memory, capacity_for};
+use crate::memory::{Layout, MOST_VOTES, TooSmall};
 use crate::post::Post;
 use crate::table::Table;
+use std::marker::PhantomData;
 use votes::numbers::Numbers;
 use votes::vote::Vote;
 
-pub type TablePost<'a, V> = MemoryPost<Table<'a, V>>;
+pub type TablePost<'a, V> = MemoryPost<'a, Table<V>>;
 
-pub type FramePost<'a, V> = MemoryPost<Frames<'a, V>>;
+pub type FramePost<'a, V> = MemoryPost<'a, Frames<V>>;
 
 #[derive(Drop)]
-pub struct MemoryPost<M> {
-    memory: M,
+pub struct MemoryPost<'a, L: Layout> {
+    memory: &'a mut [L::Item],
     count: usize,
+    layout: PhantomData<L>,
+}
+
+// How many votes a post over this memory may hold.
+fn capacity_of<L: Layout>(memory: &[L::Item]) -> usize
+    ensures { result ≡ cut (L.places memory.now) }
+{
+    L::places(memory).min(MOST_VOTES)
 }
 
 // The refusal of a place.
-fn fault_at<M: Memory>(place: usize) -> Fault
-    ensures { result ≡ record { layer = M.layer; place = place } }
+fn fault_at<L: Layout>(place: usize) -> Fault
+    ensures { result ≡ record { layer = L.layer; place = place } }
 {
     Fault {
-        layer: M::layer(),
+        layer: L::layer(),
         place,
     }
 }
 
-impl<M: Memory> MemoryPost<M> {
-    // A post whose first votes are those of the memory, as many as stated or as it may hold.
-    pub fn new(memory: M, count: usize) -> MemoryPost<M>
-        ensures count { result.count ≡ min count (cut (M.places memory)) }
-        ensures votes { held result.count (M.votes result.memory) ≡ held count (M.votes memory) }
-        ensures same { result.memory ≡ memory }
+impl<'a, L: Layout> MemoryPost<'a, L> {
+    // Whether memory can hold a vote.
+    pub fn check(memory: &[L::Item]) -> Result<(), TooSmall>
+        ensures { result ≡ memory_check (cut (L.places memory.now)) }
     {
-        let cut = count.min(capacity_for(memory.places()));
-        MemoryPost { memory, count: cut }
+        if capacity_of::<L>(memory) == 0 {
+            Err(TooSmall)
+        } else {
+            Ok(())
+        }
+    }
+
+    // A post whose first votes are those in the memory, as many as stated or as it may hold.
+    pub fn new(memory: &'a mut [L::Item], count: usize) -> MemoryPost<'a, L>
+        ensures count { result.count ≡ min count (cut (L.places memory.old)) }
+        ensures votes { held result.count (L.votes result.memory.now) ≡ held count (L.votes memory.old) }
+        ensures same { result.memory.now ≡ memory.old }
+        ensures lent { result.memory.ghost_name ≡ memory.entry.ghost_name }
+    {
+        let cut = count.min(capacity_of::<L>(memory));
+        MemoryPost {
+            memory,
+            count: cut,
+            layout: PhantomData,
+        }
     }
 
     fn capacity(&self) -> usize
-        ensures { result ≡ cut (M.places self.now.memory) }
+        ensures { result ≡ cut (L.places self.now.memory.now) }
     {
-        capacity_for(self.memory.places())
+        capacity_of::<L>(self.memory)
     }
 }
 
-impl<M: Memory> Post for MemoryPost<M> {
-    type Value = M::Value;
+impl<'a, L: Layout> Post for MemoryPost<'a, L> {
+    type Value = L::Value;
 
-    ghost votes = { λ post. held post.count (M.votes post.memory) };
+    ghost votes = { λ post. held post.count (L.votes post.memory.now) };
 
-    ghost capacity = { λ post. cut (M.places post.memory) };
+    ghost capacity = { λ post. cut (L.places post.memory.now) };
 
-    ghost layer = { M.layer };
+    ghost layer = { L.layer };
 
-    ghost within = { λ post. held_within post.count (M.votes post.memory) (M.places post.memory) (M.long post.memory) };
+    ghost within = { λ post. held_within post.count (L.votes post.memory.now) (L.places post.memory.now) (L.long post.memory.now) };
 
-    ghost limited = { λ post. cut_limited (M.places post.memory) };
+    ghost limited = { λ post. cut_limited (L.places post.memory.now) };
 
-    fn send(&mut self, vote: &Vote<M::Value>) -> Result<(), Fault>
-        ensures value { result ≡ sent M.layer (cut (M.places self.old.memory)) (held self.old.count (M.votes self.old.memory)) }
-        ensures after { held self.new.count (M.votes self.new.memory) ≡ after_send (cut (M.places self.old.memory)) (held self.old.count (M.votes self.old.memory)) vote.now }
-        ensures same { cut (M.places self.new.memory) ≡ cut (M.places self.old.memory) }
-        ensures memory { MatchBool (has_room (cut (M.places self.old.memory)) (held self.old.count (M.votes self.old.memory)))
-            (M.Puts (length (held self.old.count (M.votes self.old.memory))) vote.now self.old.memory self.new.memory)
-            (self.new.memory ≡ self.old.memory) }
+    fn send(&mut self, vote: &Vote<L::Value>) -> Result<(), Fault>
+        ensures value { result ≡ sent L.layer (cut (L.places self.old.memory.now)) (held self.old.count (L.votes self.old.memory.now)) }
+        ensures after { held self.new.count (L.votes self.new.memory.now) ≡ after_send (cut (L.places self.old.memory.now)) (held self.old.count (L.votes self.old.memory.now)) vote.now }
+        ensures same { cut (L.places self.new.memory.now) ≡ cut (L.places self.old.memory.now) }
+        ensures memory { self.new.memory.now
+            ≡ (if has_room (cut (L.places self.old.memory.now)) (held self.old.count (L.votes self.old.memory.now))
+            then L.put (length (held self.old.count (L.votes self.old.memory.now))) vote.now self.old.memory.now
+            else self.old.memory.now) }
+        ensures lent { self.new.memory.ghost_name ≡ self.old.memory.ghost_name }
     {
         let count = self.count();
         if count >= self.capacity() {
-            return Err(fault_at::<M>(count));
+            return Err(fault_at::<L>(count));
         }
-        self.memory.put(count, vote);
+        L::put(self.memory, count, vote);
         self.count = count + 1;
         Ok(())
     }
@@ -83,21 +110,21 @@ impl<M: Memory> Post for MemoryPost<M> {
         self.count.min(self.capacity())
     }
 
-    fn fetch(&self, place: usize) -> Result<Vote<M::Value>, Fault> {
+    fn fetch(&self, place: usize) -> Result<Vote<L::Value>, Fault> {
         let vote = if place < self.count() {
-            self.memory.get(place)
+            L::get(self.memory, place)
         } else {
             None
         };
-        vote.ok_or(fault_at::<M>(place))
+        vote.ok_or(fault_at::<L>(place))
     }
 
     fn numbers(&self, place: usize) -> Result<Numbers, Fault> {
         let numbers = if place < self.count() {
-            self.memory.numbers(place)
+            L::numbers(self.memory, place)
         } else {
             None
         };
-        numbers.ok_or(fault_at::<M>(place))
+        numbers.ok_or(fault_at::<L>(place))
     }
 }

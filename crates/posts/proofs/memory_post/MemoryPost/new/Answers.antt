@@ -5,5 +5,5 @@ use Rattle.posts.proofs.memory_post.MemoryPost.new.Goals as goal
 
 pub returns-clause-votes : goal.returns-clause-votes
 returns-clause-votes g c =
-    let M = g.M.Memory in
-    held_cut c.args.count _ (M.votes c.args.memory) (M.long c.args.memory) _ (omega (arith, c.min-cut.ensures, c.capacity_for.ensures, c.places.ensures))
+    let L = g.L.Layout in
+    held_cut c.args.count _ (L.votes c.args.memory.now) (L.long c.args.memory.now) _ (omega (arith, c.min-cut.ensures, c.capacity_of.ensures))

@@ -6,4 +6,4 @@ use Rattle.posts.proofs.memory_post.MemoryPostPost.count.Goals as goal
 pub returns : goal.returns
 returns g c =
     let post = c.args.self.now in
-    omega (arith, c.min.ensures, c.capacity.ensures, held_count post.count _ (g.M.Memory.votes post.memory) (g.M.Memory.long post.memory))
+    omega (arith, c.min.ensures, c.capacity.ensures, held_count post.count _ (g.L.Layout.votes post.memory.now) (g.L.Layout.long post.memory.now))

@@ -11,8 +11,8 @@ use Rattle.posts.proofs.memory_post.MemoryPostPost.fetch.Goals as goal
 pub returns : goal.returns
 returns g c =
     let post = c.args.self.now in
-    let votes = g.M.Memory.votes post.memory in
-    let long = g.M.Memory.long post.memory in
+    let votes = g.L.Layout.votes post.memory.now in
+    let long = g.L.Layout.long post.memory.now in
     let place = c.args.place in
     let there : c.if-place-count.vote ≡ slice_get (held post.count votes) place =
     elim

@@ -1,6 +1,5 @@
 -- Why `memory_post::MemoryPostPost::send` meets its contract.
-use Rattle.std.proofs.Common.{◌<◌, ◌≤◌, length, Err, ap, ◌∙◌, arith}
-use Rattle.posts.specs.Memories.{cut, held}
+use Rattle.std.proofs.Common.{Err, ap, ◌∙◌, arith}
 use Rattle.posts.proofs.Calls.{sent_there, sent_full, after_send_full}
 use Rattle.posts.proofs.Holding.{held_put}
 use Rattle.posts.proofs.memory_post.MemoryPostPost.send.Goals as goal
@@ -19,4 +18,4 @@ returns-clause-value g c = sent_there _ _ _ (omega (arith, c.count-count.ensures
 pub returns-clause-after : goal.returns-clause-after
 returns-clause-after g c =
     let post = c.args.self.now in
-    held_put post.count _ (g.M.Memory.votes post.memory) (g.M.Memory.long post.memory) _ _ _ c.count-count.ensures (omega (arith, c.capacity.ensures, c.if-count-capacity.false)) c.put.ensures.votes
+    held_put post.count _ (g.L.Layout.votes post.memory.now) (g.L.Layout.long post.memory.now) _ _ _ c.count-count.ensures (omega (arith, c.capacity.ensures, c.if-count-capacity.false)) c.put.ensures.votes
