@@ -1,5 +1,6 @@
 // The memory of a post, of either kind, and the calls on a post over it.
-ghost use Rattle.std.specs.Prelude.{◌≡◌, IfOk, MatchBool, length, string_bytes};
+ghost use Rattle.std.specs.Prelude.{◌≡◌, IfOk, if◌then◌else◌, length, string_bytes};
+ghost use Rattle.pagebook.specs.Answers.{look_answer};
 ghost use Rattle.pagebook.specs.Desks.{Writes, capacity_of, count_after, filled, held_in, memory_after, poked, sent_to, shown};
 ghost use Rattle.posts.specs.Memories.{cut, held, memory_check};
 ghost use Rattle.posts.specs.Posts.{after_send, has_room, sent};
@@ -8,8 +9,8 @@ use super::answers::look_text;
 use super::command::Look;
 use posts::fault::Fault;
 use posts::frames::Frames;
-use posts::memory::{Memory as PostMemory, TooSmall};
-use posts::memory_post::MemoryPost;
+use posts::memory::{Layout, TooSmall};
+use posts::memory_post::{FramePost, MemoryPost, TablePost};
 use posts::post::Post;
 use posts::table::Table;
 use std::alloc::{AllocError, Global};
@@ -23,23 +24,38 @@ pub(crate) enum Memory<V> {
     Frames(Vec<u8>),
 }
 
-// Sends a vote to a post over any memory, and keeps the count that the post has then.
-fn send_to<M: PostMemory>(
-    post: &mut MemoryPost<M>,
+// Sends a vote to the post over memory with a count, and keeps the count that it has then.
+fn send_to<L: Layout>(
+    memory: &mut [L::Item],
     count: &mut usize,
-    vote: &Vote<M::Value>,
+    vote: &Vote<L::Value>,
 ) -> Result<(), Fault>
-    ensures value { result ≡ sent M.layer (cut (M.places post.old.memory)) (held post.old.count (M.votes post.old.memory)) }
+    ensures value { result ≡ sent L.layer (cut (L.places memory.old)) (held count.old (L.votes memory.old)) }
     ensures memory {
-        MatchBool (has_room (cut (M.places post.old.memory)) (held post.old.count (M.votes post.old.memory)))
-        (M.Puts (length (held post.old.count (M.votes post.old.memory))) vote.now post.old.memory post.new.memory)
-        (post.new.memory ≡ post.old.memory)
+        memory.new
+        ≡ (if has_room (cut (L.places memory.old)) (held count.old (L.votes memory.old))
+           then L.put (length (held count.old (L.votes memory.old))) vote.now memory.old
+           else memory.old)
     }
-    ensures count { count.new ≡ length (after_send (cut (M.places post.old.memory)) (held post.old.count (M.votes post.old.memory)) vote.now) }
+    ensures count { count.new ≡ length (after_send (cut (L.places memory.old)) (held count.old (L.votes memory.old)) vote.now) }
 {
+    let mut post = MemoryPost::<L>::new(memory, *count);
     let sent = post.send(vote);
     *count = post.count();
     sent
+}
+
+// What a look at the post over memory with a count shows.
+fn look_at<V: TextValue, L: Layout<Value = V>>(
+    heap: Global,
+    memory: &mut [L::Item],
+    count: usize,
+    look: Look,
+) -> Result<String, AllocError>
+    ensures value { IfOk result (λ s. string_bytes s ≡ look_answer V.Value V.TextValue.own L.layer (held count (L.votes memory.old)) look) }
+    ensures same { memory.new ≡ memory.old }
+{
+    look_text(heap, &MemoryPost::<L>::new(memory, count), look)
 }
 
 impl<V: TextValue> Memory<V> {
@@ -48,8 +64,8 @@ impl<V: TextValue> Memory<V> {
         ensures { result ≡ memory_check (capacity_of V.Value (held_in self.now)) }
     {
         match self {
-            Memory::Table(table) => Table::check(table.as_slice()),
-            Memory::Frames(bytes) => Frames::<V>::check(bytes.as_slice()),
+            Memory::Table(table) => TablePost::check(table.as_slice()),
+            Memory::Frames(bytes) => FramePost::<V>::check(bytes.as_slice()),
         }
     }
 
@@ -60,14 +76,8 @@ impl<V: TextValue> Memory<V> {
         ensures count { count.new ≡ count_after V.Value vote.now count.old (held_in self.old) }
     {
         match self {
-            Memory::Table(table) => {
-                let mut post = MemoryPost::new(Table::over(table.as_mut_slice()), *count);
-                send_to(&mut post, count, vote)
-            }
-            Memory::Frames(bytes) => {
-                let mut post = MemoryPost::new(Frames::over(bytes.as_mut_slice()), *count);
-                send_to(&mut post, count, vote)
-            }
+            Memory::Table(table) => send_to::<Table<V>>(table.as_mut_slice(), count, vote),
+            Memory::Frames(bytes) => send_to::<Frames<V>>(bytes.as_mut_slice(), count, vote),
         }
     }
 
@@ -99,14 +109,8 @@ impl<V: TextValue> Memory<V> {
         ensures same { held_in self.new ≡ held_in self.old }
     {
         match self {
-            Memory::Table(table) => {
-                let post = MemoryPost::new(Table::over(table.as_mut_slice()), count);
-                look_text(heap, &post, look)
-            }
-            Memory::Frames(bytes) => {
-                let post = MemoryPost::new(Frames::<V>::over(bytes.as_mut_slice()), count);
-                look_text(heap, &post, look)
-            }
+            Memory::Table(table) => look_at::<V, Table<V>>(heap, table.as_mut_slice(), count, look),
+            Memory::Frames(bytes) => look_at::<V, Frames<V>>(heap, bytes.as_mut_slice(), count, look),
         }
     }
 }
