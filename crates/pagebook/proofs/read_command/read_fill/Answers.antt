@@ -1,38 +1,28 @@
 -- Why `read_command::read_fill` meets its contract.
-use Rattle.std.proofs.Common.{◌<◌, ◌≤◌, length, refl, subst, rules}
+use Rattle.std.proofs.Common.{Some, refl, rules}
 use Rattle.pagebook.specs.Commands.{FillWords}
-use Rattle.text.specs.VoteWords.{VoteReads}
-use Rattle.pagebook.proofs.Reading.{when_yes, when_no, given, missing, some_words, no_words, number_at, after_first}
+use Rattle.pagebook.proofs.Reading.{none_of, first_of, begins, stopped, went_on, place_read}
 use Rattle.pagebook.proofs.read_command.read_fill.Goals as goal
 
 pub returns-in_default : goal.returns-in_default
 unfolding FillWords
-returns-in_default g c =
-    let none : length c.args.rest.now ≤ 0 = search rules in
-    when_no _ _ _ (no_words c.args.rest.now none) refl
+returns-in_default g c = rw (none_of c.args.rest.now (search rules))
 
-pub returns-in_default-number : goal.returns-in_default-number
+pub returns-in_err-place : goal.returns-in_err-place
 unfolding FillWords
-returns-in_default-number g c =
-    let ws = c.args.rest.now in
-    let some : 0 < length ws = search rules in
-    let place = number_at ws c.number.result 0 _ some c.number.ensures in
-    when_yes _ _ _ (some_words ws some) (c.number.result, place, missing _ _ _ c.in_default-number.is refl)
+returns-in_err-place g c =
+    let place = place_read _ c.number_in.result c.number_in.ensures in
+    rw (first_of c.args.rest.now (search rules), begins) (stopped _ _ c.number_in.result _ _ c.in_err-place.was c.from_residual.ensures.1 place)
 
-pub returns-in-Some-2 : goal.returns-in-Some-2
+pub returns-in_err-read_vote : goal.returns-in_err-read_vote
 unfolding FillWords
-returns-in-Some-2 g c =
-    let ws = c.args.rest.now in
-    let some : 0 < length ws = search rules in
-    let place = number_at ws c.number.result 0 _ some c.number.ensures in
-    let vote = subst (λ ys. VoteReads g.V.Value g.V.TextValue ys c.in_ok-vote.field-0) (after_first ws) c.in_ok-vote.ensures in
-    when_yes _ _ _ (some_words ws some) (c.number.result, place, given _ _ _ _ c.in-Some.is (c.in_ok-vote.field-0, vote, given _ _ _ _ c.in-Some-2.is refl))
+returns-in_err-read_vote g c =
+    let place = place_read _ c.number_in.result c.number_in.ensures in
+    let vote = stopped _ _ c.read_vote.result c.from_residual-in_err-read_vote.result _ c.in_err-read_vote.was c.from_residual-in_err-read_vote.ensures.1 c.read_vote.ensures in
+    rw (first_of c.args.rest.now (search rules), begins) (went_on _ _ c.number_in.result _ _ c.in_ok-place.was place vote)
 
-pub returns-in-None : goal.returns-in-None
+pub returns : goal.returns
 unfolding FillWords
-returns-in-None g c =
-    let ws = c.args.rest.now in
-    let some : 0 < length ws = search rules in
-    let place = number_at ws c.number.result 0 _ some c.number.ensures in
-    let vote = subst (λ ys. VoteReads g.V.Value g.V.TextValue ys c.in_ok-vote.field-0) (after_first ws) c.in_ok-vote.ensures in
-    when_yes _ _ _ (some_words ws some) (c.number.result, place, given _ _ _ _ c.in-Some.is (c.in_ok-vote.field-0, vote, missing _ _ _ c.in-None.is refl))
+returns g c =
+    let place = place_read _ c.number_in.result c.number_in.ensures in
+    rw (first_of c.args.rest.now (search rules), begins) (Some _, (rw c.in_ok-place.was at place), (Some _, (rw c.in_ok-read_vote.was at c.read_vote.ensures), refl))

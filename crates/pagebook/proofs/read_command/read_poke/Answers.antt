@@ -1,37 +1,28 @@
 -- Why `read_command::read_poke` meets its contract.
-use Rattle.std.proofs.Common.{◌≡◌, length, refl, arith, rules}
+use Rattle.std.proofs.Common.{Some, refl, rules}
 use Rattle.pagebook.specs.Commands.{PokeWords}
-use Rattle.pagebook.proofs.Reading.{when_yes, when_no, given, missing, counted, miscounted, number_at, bytes_at}
+use Rattle.pagebook.proofs.Reading.{two_of, other_count, stopped, went_on, place_read}
 use Rattle.pagebook.proofs.read_command.read_poke.Goals as goal
 
 pub returns-in_default : goal.returns-in_default
 unfolding PokeWords
-returns-in_default g c =
-    let other : length c.args.rest.now ≡ 2 → ⊥ = search rules in
-    when_no _ _ _ (miscounted c.args.rest.now 2 other) refl
+returns-in_default g c = rw (other_count c.args.rest.now 2 (search rules))
 
-pub returns-in_default-number : goal.returns-in_default-number
+pub returns-in_err-offset : goal.returns-in_err-offset
 unfolding PokeWords
-returns-in_default-number g c =
-    let ws = c.args.rest.now in
-    let long : length ws ≡ 2 = search rules in
-    let offset = number_at ws c.number.result 0 _ (omega arith) c.number.ensures in
-    when_yes _ _ _ (counted ws 2 long) (c.number.result, offset, missing _ _ _ c.in_default-number.is refl)
+returns-in_err-offset g c =
+    let offset = place_read _ c.number_in.result c.number_in.ensures in
+    rw (two_of c.args.rest.now (search rules)) (stopped _ _ c.number_in.result _ _ c.in_err-offset.was c.from_residual.ensures.1 offset)
 
-pub returns-in-Some-2 : goal.returns-in-Some-2
+pub returns-in_err-read_bytes : goal.returns-in_err-read_bytes
 unfolding PokeWords
-returns-in-Some-2 g c =
-    let ws = c.args.rest.now in
-    let long : length ws ≡ 2 = search rules in
-    let offset = number_at ws c.number.result 0 _ (omega arith) c.number.ensures in
-    let bytes = bytes_at ws c.in_ok-bytes.field-0 1 _ (omega arith) c.in_ok-bytes.ensures in
-    when_yes _ _ _ (counted ws 2 long) (c.number.result, offset, given _ _ _ _ c.in-Some.is (c.in_ok-bytes.field-0, bytes, given _ _ _ _ c.in-Some-2.is refl))
+returns-in_err-read_bytes g c =
+    let offset = place_read _ c.number_in.result c.number_in.ensures in
+    let bytes = stopped _ _ c.read_bytes.result c.from_residual-in_err-read_bytes.result _ c.in_err-read_bytes.was c.from_residual-in_err-read_bytes.ensures.1 c.read_bytes.ensures in
+    rw (two_of c.args.rest.now (search rules)) (went_on _ _ c.number_in.result _ _ c.in_ok-offset.was offset bytes)
 
-pub returns-in-None : goal.returns-in-None
+pub returns : goal.returns
 unfolding PokeWords
-returns-in-None g c =
-    let ws = c.args.rest.now in
-    let long : length ws ≡ 2 = search rules in
-    let offset = number_at ws c.number.result 0 _ (omega arith) c.number.ensures in
-    let bytes = bytes_at ws c.in_ok-bytes.field-0 1 _ (omega arith) c.in_ok-bytes.ensures in
-    when_yes _ _ _ (counted ws 2 long) (c.number.result, offset, given _ _ _ _ c.in-Some.is (c.in_ok-bytes.field-0, bytes, missing _ _ _ c.in-None.is refl))
+returns g c =
+    let offset = place_read _ c.number_in.result c.number_in.ensures in
+    rw (two_of c.args.rest.now (search rules)) (Some _, (rw c.in_ok-offset.was at offset), (Some _, (rw c.in_ok-read_bytes.was at c.read_bytes.ensures), refl))

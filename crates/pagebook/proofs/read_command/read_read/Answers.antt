@@ -1,27 +1,18 @@
 -- Why `read_command::read_read` meets its contract.
-use Rattle.std.proofs.Common.{◌≡◌, length, refl, arith, rules}
+use Rattle.std.proofs.Common.{Some, refl, rules}
 use Rattle.pagebook.specs.Commands.{ReadWords}
-use Rattle.pagebook.proofs.Reading.{when_yes, when_no, given, missing, counted, miscounted, bytes_at}
+use Rattle.pagebook.proofs.Reading.{one_of, other_count, stopped}
 use Rattle.pagebook.proofs.read_command.read_read.Goals as goal
 
 pub returns-in_default : goal.returns-in_default
 unfolding ReadWords
-returns-in_default g c =
-    let other : length c.args.rest.now ≡ 1 → ⊥ = search rules in
-    when_no _ _ _ (miscounted c.args.rest.now 1 other) refl
+returns-in_default g c = rw (other_count c.args.rest.now 1 (search rules))
 
-pub returns-in-Some : goal.returns-in-Some
+pub returns-in_err-read_bytes : goal.returns-in_err-read_bytes
 unfolding ReadWords
-returns-in-Some g c =
-    let ws = c.args.rest.now in
-    let long : length ws ≡ 1 = search rules in
-    let read = bytes_at ws c.in_ok-bytes.field-0 0 _ (omega arith) c.in_ok-bytes.ensures in
-    when_yes _ _ _ (counted ws 1 long) (c.in_ok-bytes.field-0, read, given _ _ _ _ c.in-Some.is refl)
+returns-in_err-read_bytes g c =
+    rw (one_of c.args.rest.now (search rules)) (stopped _ _ c.read_bytes.result _ _ c.in_err-read_bytes.was c.from_residual.ensures.1 c.read_bytes.ensures)
 
-pub returns-in-None : goal.returns-in-None
+pub returns : goal.returns
 unfolding ReadWords
-returns-in-None g c =
-    let ws = c.args.rest.now in
-    let long : length ws ≡ 1 = search rules in
-    let read = bytes_at ws c.in_ok-bytes.field-0 0 _ (omega arith) c.in_ok-bytes.ensures in
-    when_yes _ _ _ (counted ws 1 long) (c.in_ok-bytes.field-0, read, missing _ _ _ c.in-None.is refl)
+returns g c = rw (one_of c.args.rest.now (search rules)) (Some _, (rw c.in_ok-read_bytes.was at c.read_bytes.ensures), refl)
