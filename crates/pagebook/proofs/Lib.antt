@@ -1,3 +1,4 @@
 -- The lemmas of the program, by topic.
+pub mod Reading
 pub mod Listing
 pub mod Filling

@@ -21,7 +21,7 @@ pub(crate) enum Command<V> {
 }
 
 // What a line asks of the post and leaves as it is.
-#[derive(Clone, Copy)]
+#[derive(Clone, Copy, Debug, PartialEq, Eq)]
 pub(crate) enum Look {
     Fetch(usize),
     Count,

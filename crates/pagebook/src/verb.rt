@@ -1,8 +1,13 @@
 // The first word of a line, which says what the line asks.
 ghost use Rattle.std.specs.Prelude.{◌≡◌};
+ghost use Rattle.std.specs.Option.{ok_or};
 ghost use Rattle.pagebook.specs.Verbs.{verb_named};
+ghost use Rattle.words.specs.declared.refusal.Refusal.TheVariants.{Malformed};
 
-#[derive(Clone, Copy)]
+use std::str::FromStr;
+use words::refusal::Refusal;
+
+#[derive(Clone, Copy, Debug, PartialEq, Eq)]
 pub(crate) enum Verb {
     Frame,
     Read,
@@ -15,22 +20,24 @@ pub(crate) enum Verb {
     Votes,
 }
 
-impl Verb {
+impl FromStr for Verb {
+    type Err = Refusal;
+
     // The verb that a word names, if it names one.
-    pub(crate) fn named(word: &str) -> Option<Verb>
-        ensures { result ≡ verb_named word.now }
-    {
+    ghost from_str_gives = { λ word r. r ≡ ok_or (verb_named word) Malformed };
+
+    fn from_str(word: &str) -> Result<Verb, Refusal> {
         match word {
-            "frame" => Some(Verb::Frame),
-            "read" => Some(Verb::Read),
-            "post" => Some(Verb::Post),
-            "fill" => Some(Verb::Fill),
-            "poke" => Some(Verb::Poke),
-            "send" => Some(Verb::Send),
-            "fetch" => Some(Verb::Fetch),
-            "count" => Some(Verb::Count),
-            "votes" => Some(Verb::Votes),
-            _ => None,
+            "frame" => Ok(Verb::Frame),
+            "read" => Ok(Verb::Read),
+            "post" => Ok(Verb::Post),
+            "fill" => Ok(Verb::Fill),
+            "poke" => Ok(Verb::Poke),
+            "send" => Ok(Verb::Send),
+            "fetch" => Ok(Verb::Fetch),
+            "count" => Ok(Verb::Count),
+            "votes" => Ok(Verb::Votes),
+            _ => Err(Refusal::Malformed),
         }
     }
 }

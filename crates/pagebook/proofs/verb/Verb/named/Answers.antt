@@ -1,7 +1,0 @@
--- Why `verb::Verb::named` meets its contract.
-use Rattle.std.proofs.Common.{rules}
-use Rattle.std.proofs.lemmas.Slice.Eq.{bytes_eq-Decides}
-use Rattle.pagebook.proofs.verb.Verb.named.Goals as goal
-
-pub returns-in_default : goal.returns-in_default
-returns-in_default c = search (rules, bytes_eq-Decides)
