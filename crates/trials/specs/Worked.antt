@@ -10,12 +10,7 @@ use Rattle.votes.specs.declared.vote.Vote.{Vote}
 
 abbrev pub worked_vote : Vote Rate
 worked_vote = record {
-  kind = code_of Precommit;
-  page = 7;
-  round = 0;
-  house = 2;
-  cp = 0;
-  val = 0;
+  numbers = record { kind = code_of Precommit; page = 7; round = 0; house = 2; cp = 0; val = 0 };
   value = record { amount = pos 12500; fits = lit< tt };
 }
 

@@ -5,6 +5,7 @@ use values::rate::Rate;
 use values::value::Value;
 use votes::frame::{is_readable, read_frame, write_frame};
 use votes::kind::Kind;
+use votes::numbers::Numbers;
 use votes::vote::Vote;
 
 // PRECOMMIT, page 7, round 0, house 2, rate 12,500.
@@ -18,21 +19,23 @@ fn the_worked_frame_is_written_and_read(rt: HostRuntime) {
     assert!(rt; worked_frame() == WORKED);
     assert!(rt; is_readable::<Rate>(&WORKED));
     let vote = read_frame::<Rate>(&WORKED);
-    assert_eq!(rt; vote.kind, Kind::Precommit.code());
-    assert_eq!(rt; vote.page, 7);
-    assert_eq!(rt; vote.house, 2);
+    assert_eq!(rt; vote.numbers.kind, u8::from(Kind::Precommit));
+    assert_eq!(rt; vote.numbers.page, 7);
+    assert_eq!(rt; vote.numbers.house, 2);
     assert_eq!(rt; vote.value.amount, 12_500);
 }
 
 #[test]
 fn every_field_has_its_place(rt: HostRuntime) {
     let vote = Vote {
-        kind: 0x21,
-        page: 0x3242_5262,
-        round: 0x7383,
-        house: 0x94,
-        cp: 0xa5,
-        val: 0xb6,
+        numbers: Numbers {
+            kind: 0x21,
+            page: 0x3242_5262,
+            round: 0x7383,
+            house: 0x94,
+            cp: 0xa5,
+            val: 0xb6,
+        },
         value: Rate { amount: -2 },
     };
     let mut frame = [0; 21];
@@ -59,9 +62,9 @@ fn damaged_frames_stand_for_the_empty_vote(rt: HostRuntime) {
     other_version[2] = 2;
     assert!(rt; !is_readable::<Rate>(&other_version));
     let vote = read_frame::<Rate>(&other_version);
-    assert_eq!(rt; vote.kind, 0);
-    assert_eq!(rt; vote.page, 0);
-    assert_eq!(rt; vote.house, 0);
+    assert_eq!(rt; vote.numbers.kind, 0);
+    assert_eq!(rt; vote.numbers.page, 0);
+    assert_eq!(rt; vote.numbers.house, 0);
     assert!(rt; vote.value.same(&Rate::blank()));
 }
 

@@ -1,6 +1,7 @@
 // Which votes are void in a circle of four houses, and which share a slot.
 use values::rate::Rate;
 use values::value::Value;
+use votes::numbers::Numbers;
 use votes::vote::Vote;
 
 // A vote of page 7, round 0 and house 3, with a value or blank.
@@ -11,12 +12,14 @@ fn vote(kind: u8, cp: u8, val: u8, valued: bool) -> Vote<Rate> {
         Rate::blank()
     };
     Vote {
-        kind,
-        page: 7,
-        round: 0,
-        house: 3,
-        cp,
-        val,
+        numbers: Numbers {
+            kind,
+            page: 7,
+            round: 0,
+            house: 3,
+            cp,
+            val,
+        },
         value,
     }
 }
@@ -60,13 +63,13 @@ fn shapes_are_those_of_the_table(rt: HostRuntime) {
 fn page_round_and_house_have_limits(rt: HostRuntime) {
     let mut v = vote(2, 0, 0, true);
     assert!(rt; v.is_void(3));
-    v.page = 65_535;
-    v.round = 63;
+    v.numbers.page = 65_535;
+    v.numbers.round = 63;
     assert!(rt; !v.is_void(4));
-    v.round = 64;
+    v.numbers.round = 64;
     assert!(rt; v.is_void(4));
-    v.round = 63;
-    v.page = 65_536;
+    v.numbers.round = 63;
+    v.numbers.page = 65_536;
     assert!(rt; v.is_void(4));
 }
 
@@ -75,9 +78,9 @@ fn a_slot_is_kind_page_round_house_and_cp(rt: HostRuntime) {
     let a = vote(3, 1, 0, false);
     let mut b = vote(3, 1, 1, true);
     assert!(rt; a.shares_slot(&b));
-    b.cp = 2;
+    b.numbers.cp = 2;
     assert!(rt; !a.shares_slot(&b));
-    b.cp = 1;
-    b.house = 2;
+    b.numbers.cp = 1;
+    b.numbers.house = 2;
     assert!(rt; !a.shares_slot(&b));
 }

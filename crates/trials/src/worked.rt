@@ -5,6 +5,7 @@ ghost use Rattle.trials.specs.Worked.{worked_bytes, WorkedFrame};
 use values::rate::Rate;
 use votes::frame::write_frame;
 use votes::kind::Kind;
+use votes::numbers::Numbers;
 use votes::vote::Vote;
 
 // PRECOMMIT, page 7, round 0, house 2, rate 12,500, as a frame.
@@ -13,12 +14,14 @@ pub fn worked_frame() -> [u8; 21]
     ensures shown { WorkedFrame }
 {
     let vote = Vote {
-        kind: Kind::Precommit.code(),
-        page: 7,
-        round: 0,
-        house: 2,
-        cp: 0,
-        val: 0,
+        numbers: Numbers {
+            kind: u8::from(Kind::Precommit),
+            page: 7,
+            round: 0,
+            house: 2,
+            cp: 0,
+            val: 0,
+        },
         value: Rate { amount: 12_500 },
     };
     let mut frame = [0; 21];

@@ -61,7 +61,7 @@ big-number k ys long small =
     let fits : number ys < 256 ^ k = rw long at (number_lt ys small) in
     number_cancels (big k (number ys)) ys (length-big k (number ys) ∙ sym long) (octets-big k (number ys)) small (number-big k (number ys) fits)
 
-field-number : (size place : ℕ) (bs : List ℕ) → place + size ≤ length bs → field size place bs ≡ number (take size (drop place bs))
+pub field-number : (size place : ℕ) (bs : List ℕ) → place + size ≤ length bs → field size place bs ≡ number (take size (drop place bs))
 field-number zero place bs within = refl
 field-number (suc size) place bs within =
     let here : place < length bs = omega arith in

@@ -1,29 +1,11 @@
 // Fingerprints as a kind of value: 32 bytes, and all zero for blank.
-ghost use Rattle.std.specs.Prelude.{◌≡◌, ◌+◌, ◌*◌, ◌≤◌, length};
+ghost use Rattle.std.specs.Prelude.{◌*◌};
 ghost use Rattle.std.proofs.Common.{ap, ◌∙◌, lit≤};
-ghost use Rattle.values.specs.Bytes.{field};
 ghost use Rattle.values.specs.Fingerprints.{fingerprint_bytes, fingerprint_parsed, fingerprint_blank};
 ghost use Rattle.values.specs.FingerprintsLemmas.{length_words, octets_words, fingerprint_reading, fingerprint_writing};
 
 use crate::fingerprint::Fingerprint;
 use crate::value::Value;
-
-// The big-endian number in the eight bytes from a place on.
-fn word_at(from: &[u8], at: usize) -> u64
-    requires { at + 8 ≤ length from.now }
-    ensures { result ≡ field 8 at from.now }
-{
-    u64::from_be_bytes([
-        from[at],
-        from[at + 1],
-        from[at + 2],
-        from[at + 3],
-        from[at + 4],
-        from[at + 5],
-        from[at + 6],
-        from[at + 7],
-    ])
-}
 
 impl Value for Fingerprint {
     ghost width = { 32 };
@@ -51,22 +33,15 @@ impl Value for Fingerprint {
     }
 
     fn write(&self, out: &mut [u8]) {
-        for k in 0..4 {
-            let word = self.words[k].to_be_bytes();
-            out[8 * k..8 * k + 8].copy_from_slice(&word);
-        }
+        let words = self.words.map(u64::to_be_bytes);
+        out.copy_from_slice(words.as_flattened());
     }
 
     fn read(from: &[u8]) -> Option<Fingerprint> {
-        if from.len() != 32 {
+        let ([a, b, c, d], []) = from.as_chunks::<8>() else {
             return None;
-        }
-        let words = [
-            word_at(from, 0),
-            word_at(from, 8),
-            word_at(from, 16),
-            word_at(from, 24),
-        ];
+        };
+        let words = [*a, *b, *c, *d].map(u64::from_be_bytes);
         Some(Fingerprint { words })
     }
 

@@ -6,7 +6,7 @@ use Rattle.std.proofs.lemmas.List.{get_or-take, append-nil, drop_all, length-dro
 use Rattle.std.proofs.lemmas.Bool.{and_parts, and_from, eq-eqb, eqb-true, cond-true, cond-false}
 use Rattle.values.specs.Bytes.{Octets, big, field}
 use Rattle.votes.specs.Frames.{header, frame, readable, fields, stands_for, ReadsBack, WritesBack, UnreadableIsEmpty}
-use Rattle.votes.specs.Votes.{numbers_of, empty_vote}
+use Rattle.votes.specs.Votes.{numbers_of}
 use Rattle.votes.specs.declared.numbers.Numbers.{Numbers}
 use Rattle.values.specs.declared.value.Value.{Ghosts}
 use Rattle.votes.specs.declared.vote.Vote.{Vote}
@@ -164,21 +164,3 @@ module _ {V : Type 0} (G : Ghosts V) (bs : List ℕ) where
   pub read_promises : (v : Vote V) → v ≡ stands_for G bs → Octets bs → ((cs : List ℕ) → length cs ≡ G.width → Octets cs → G.bytes (G.parsed cs) ≡ cs) → WritesBack G bs v × UnreadableIsEmpty G bs v
   read_promises v value small writing =
       (subst (WritesBack G bs) (sym value) (frame_writes_back G bs small writing), subst (UnreadableIsEmpty G bs) (sym value) unreadable_is_empty)
-
-  -- what `parse` answers, and what the frame stands for
-  pub stands_for_some : (v : Vote V) → Some v ≡ cond (readable G bs) (Some (fields G bs)) None → v ≡ stands_for G bs
-  unfolding stands_for
-  stands_for_some v e = let r = some_cond _ _ v e in r.1 ∙ sym (cond-true _ _ _ r.0)
-
-  pub stands_for_none : (v : Vote V) → v ≡ empty_vote G → None ≡ cond (readable G bs) (Some (fields G bs)) None → v ≡ stands_for G bs
-  unfolding stands_for
-  stands_for_none v empty e = empty ∙ sym (cond-false _ _ _ (none_cond _ (fields G bs) e))
-
-  -- the numbers of what the frame stands for, by whether it is readable
-  pub stands_for_numbers : readable G bs ≡ true → numbers_of (fields G bs) ≡ numbers_of (stands_for G bs)
-  unfolding stands_for
-  stands_for_numbers whole = ap numbers_of (sym (cond-true _ (fields G bs) (empty_vote G) whole))
-
-  pub stands_for_no_numbers : readable G bs ≡ false → numbers_of (empty_vote G) ≡ numbers_of (stands_for G bs)
-  unfolding stands_for
-  stands_for_no_numbers unread = ap numbers_of (sym (cond-false _ (fields G bs) (empty_vote G) unread))

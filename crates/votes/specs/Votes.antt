@@ -47,12 +47,16 @@ numbers_of v = v.numbers
 
 -- the vote's page, round and house are those of a circle of n houses
 abbrev pub in_range : {V : Type 0} → ℕ → Vote V → Bool
-in_range n v = nat_le v.numbers.page highest_page && (nat_le v.numbers.round highest_round && nat_lt v.numbers.house n)
+in_range n v =
+    let m = v.numbers in
+    nat_le m.page highest_page && (nat_le m.round highest_round && nat_lt m.house n)
 
 -- two votes stand in one slot: they agree in kind, page, round, house and cp
 unfoldable pub same_slot : {V : Type 0} → Vote V → Vote V → Bool
 same_slot a b =
-    (a.numbers.kind == b.numbers.kind) && (a.numbers.page == b.numbers.page && (a.numbers.round == b.numbers.round && (a.numbers.house == b.numbers.house && a.numbers.cp == b.numbers.cp)))
+    let m = a.numbers in
+    let n = b.numbers in
+    (m.kind == n.kind) && (m.page == n.page && (m.round == n.round && (m.house == n.house && m.cp == n.cp)))
 
 -- of the kinds that carry a value
 abbrev pub carrying : Shape
@@ -78,7 +82,8 @@ module _ {V : Type 0} (G : Ghosts V) where
   -- cp, val and value are as a kind asks
   abbrev pub fits_shape : Shape → Vote V → Bool
   fits_shape s v =
-      nat_le v.numbers.cp s.cp && (nat_le s.low v.numbers.val && (nat_le v.numbers.val s.high && cond s.valued (not (is_blank v.value)) (is_blank v.value)))
+      let n = v.numbers in
+      nat_le n.cp s.cp && (nat_le s.low n.val && (nat_le n.val s.high && cond s.valued (not (is_blank v.value)) (is_blank v.value)))
 
   -- the vote has a kind, and that kind's shape
   abbrev pub shaped : Option Kind → Vote V → Bool

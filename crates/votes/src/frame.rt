@@ -124,6 +124,7 @@ pub fn read_frame<V: Value>(bytes: &[u8]) -> Vote<V>
     ensures writes_back { WritesBack V.Value bytes.now result }
     ensures unreadable { UnreadableIsEmpty V.Value bytes.now result }
 {
+    // A closure, since the borrow checker does not take the path `Vote::empty` here yet.
     parse(bytes).unwrap_or_else(|| Vote::empty())
 }
 

@@ -1,5 +1,4 @@
 -- The lemmas of this crate, by topic.
 pub mod Refusals
 pub mod Hexes
-pub mod Plus
 pub mod Cutting

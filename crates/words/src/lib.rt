@@ -5,3 +5,5 @@ pub mod hexadecimal;
 pub mod line;
 pub mod number;
 pub mod refusal;
+#[cfg(test)]
+mod tests;

@@ -7,6 +7,6 @@ use Rattle.trials.proofs.worked.worked_frame.Goals as goal
 pub returns : goal.returns
 unfolding frame
 returns c = record {
-  value = c.write_frame.ensures.after ∙ cond-true _ _ _ c.write_frame.ensures.test ∙ rw c.code.ensures refl;
+  value = c.write_frame.ensures.after ∙ cond-true _ _ _ c.write_frame.ensures.test ∙ rw c.from.ensures refl;
   shown = refl;
 }

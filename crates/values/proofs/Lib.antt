@@ -1,0 +1,3 @@
+-- The lemmas of this crate, by topic.
+pub mod Arrays
+pub mod Same
