@@ -98,7 +98,8 @@ impl<V: TextValue> Desk<V> {
             Command::Frame(vote) => Ok(frame_text(heap, vote)?),
             Command::Read(bytes) => Ok(read_text::<V>(heap, bytes.as_slice())?),
             Command::Table(records, count) => {
-                let table = vec![in heap; Vote::empty(); records]?;
+                let mut table = Vec::new(heap);
+                table.resize(records, Vote::empty())?;
                 self.lay(heap, Memory::Table(table), count)
             }
             Command::Frames(size, count) => {

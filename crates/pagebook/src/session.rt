@@ -1,5 +1,6 @@
 // A session: what the lines so far have settled, and the answer to the next one.
-ghost use Rattle.std.specs.Prelude.{◌≡◌, IfSome};
+ghost use Rattle.std.specs.Prelude.{◌≡◌, IfSome, not, ◌==◌};
+ghost use Rattle.std.specs.List.{find};
 ghost use Rattle.words.specs.Refusals.{IfRead};
 ghost use Rattle.pagebook.specs.Desks.{view};
 ghost use Rattle.pagebook.specs.Sessions.{Answers, Replies, begun, outcome_of, session_view, spoken, stage_of};
@@ -32,14 +33,18 @@ pub(crate) enum Session {
     Fingerprints(Desk<Fingerprint>),
 }
 
+// The first byte of a line that is no space.
+fn first_mark(line: &[u8]) -> Option<u8>
+    ensures { result ≡ find (λ b. not (b == 32)) line.now }
+{
+    line.iter().copied().find(|b| *b != b' ')
+}
+
 // A line of spaces alone, or a comment.
 fn is_ignored(line: &[u8]) -> bool
     ensures { result ≡ ignored line.now }
 {
-    line.iter()
-        .copied()
-        .find(|b| *b != b' ')
-        .is_none_or(|b| b == b'#')
+    matches!(first_mark(line), None | Some(b'#'))
 }
 
 // What a line prints once the kind of value is named: itself, an arrow and its answer.

@@ -1,5 +1,11 @@
 -- Why `memory::Memory::fill` meets its contract.
+use Rattle.std.proofs.Common.{Err, ap, ◌∙◌}
+use Rattle.std.specs.Result.{result_or}
+use Rattle.pagebook.specs.Desks.{held_in}
+use Rattle.pagebook.proofs.Filling.{fills}
+use Rattle.words.specs.declared.refusal.Refusal.TheVariants.{Malformed}
 use Rattle.pagebook.proofs.memory.Memory.fill.Goals as goal
 
 pub returns : goal.returns
-returns g c = let x = c.map_err.ensures.cases in let y = c.map_err.ensures.variant in ?
+returns g c =
+    fills g.V.Value c.args.place c.args.vote.now (held_in c.args.self.now) _ _ (c.or.ensures ∙ ap (λ r. result_or r (Err Malformed)) c.send.ensures.value) c.send.ensures.memory
