@@ -1,5 +1,4 @@
 // Values: their bytes, blank ones, and which are the same.
-use std::test::Fail;
 use values::fingerprint::Fingerprint;
 use values::rate::Rate;
 use values::value::Value;
@@ -25,7 +24,7 @@ fn a_rate_of_zero_is_not_blank(rt: HostRuntime) {
 }
 
 #[test]
-fn fingerprints_are_four_numbers_in_order(rt: HostRuntime) -> Result<(), Fail> {
+fn fingerprints_are_four_numbers_in_order(rt: HostRuntime) {
     let words = [
         0x0102_0304_0506_0708,
         0x1112_1314_1516_1718,
@@ -37,13 +36,7 @@ fn fingerprints_are_four_numbers_in_order(rt: HostRuntime) -> Result<(), Fail> {
     assert!(rt; bytes[0..9] == [1, 2, 3, 4, 5, 6, 7, 8, 0x11]);
     assert!(rt; bytes[16..17] == [0x21]);
     assert!(rt; bytes[31..32] == [0x38]);
-    match Fingerprint::read(&bytes) {
-        Some(back) => {
-            assert!(rt; back.words == words);
-            Ok(())
-        },
-        None => Err(Fail::new("32 bytes are a fingerprint")),
-    }
+    assert!(rt; Fingerprint::read(&bytes) == Some(Fingerprint { words }));
 }
 
 #[test]

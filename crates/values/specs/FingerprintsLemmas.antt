@@ -1,12 +1,12 @@
 -- A fingerprint's bytes write it and are read back as it. Assumes nothing.
 use Rattle.std.specs.Prelude.{◌≡◌, ℕ, zero, suc, ◌+◌, ◌*◌, ◌%◌, ◌^◌, ◌<◌, ◌≤◌, List, [], ◌∷◌, ◌++◌, length, take, drop, slice_index, refl}
-use Rattle.std.proofs.Common.{sym, ap, ap₂, ◌∙◌, mod-eq_of_lt, arith}
+use Rattle.std.proofs.Common.{sym, ap, ap₂, ◌∙◌, mod-eq_of_lt, add-suc, arith, lit≤}
 use mathlib.Core.HLevel.{is_prop→PathP}
 use Rattle.std.proofs.Math.Bridge.{le_prop}
 use std.HLevel.{Π_prop}
 use base.Stored.{Coded-set, coded_ℕ}
 use Rattle.std.proofs.ByRecursion.{All-append, All-drop}
-use Rattle.std.proofs.lemmas.List.{length-append, length-drop, take-append-drop}
+use Rattle.std.proofs.lemmas.List.{length-append, length-drop, take-append-drop, get_or-drop}
 use Rattle.std.specs.List.{flat_map}
 use Rattle.values.specs.Bytes.{Octets, big, field}
 use Rattle.values.specs.Fingerprints.{fingerprint_bytes, fingerprint_parsed, words_in}
@@ -51,6 +51,21 @@ fingerprint_reading f =
 
 pub fingerprint_writing : (bs : List ℕ) → length bs ≡ 32 → Octets bs → fingerprint_bytes (fingerprint_parsed bs) ≡ bs
 fingerprint_writing bs long small = words_written 4 bs long small
+
+-- a number further on
+pub field-drop : (size place n : ℕ) (bs : List ℕ) → field size place (drop n bs) ≡ field size (n + place) bs
+field-drop zero place n bs = refl
+field-drop (suc size) place n bs =
+    ap₂ (λ b m. b * 256 ^ size + m) (get_or-drop n bs place 0) (field-drop size (suc place) n bs ∙ ap (λ p. field size p bs) (add-suc n place))
+
+-- the four numbers by their places
+pub words_from_fields : (bs : List ℕ) → length bs ≡ 32 → Octets bs → field 8 0 bs ∷ field 8 8 bs ∷ field 8 16 bs ∷ field 8 24 bs ∷ [] ≡ words_in 4 bs
+words_from_fields bs long small =
+    let at : (n : ℕ) → n + 8 ≤ 32 → field 8 n bs % 2 ^ 64 ≡ field 8 n bs = λ n h. mod-eq_of_lt (field_lt 8 n bs (omega arith) small) in
+    let d1 = field-drop 8 0 8 bs in
+    let d2 = field-drop 8 0 8 (drop 8 bs) ∙ field-drop 8 8 8 bs in
+    let d3 = field-drop 8 0 8 (drop 8 (drop 8 bs)) ∙ field-drop 8 8 8 (drop 8 bs) ∙ field-drop 8 16 8 bs in
+    rw (d1, d2, d3, at 0 (lit≤ tt), at 8 (lit≤ tt), at 16 (lit≤ tt), at 24 (lit≤ tt)) refl
 
 pub words_from_bytes : (f g : Fingerprint) → fingerprint_bytes f ≡ fingerprint_bytes g → f.words ≡ g.words
 words_from_bytes f g e =

@@ -1,5 +1,5 @@
 // Frames: a vote as bytes, and the vote that bytes stand for.
-ghost use Rattle.std.specs.Prelude.{◌≡◌, ◌+◌, true, false, length, drop, is_ok, if◌then◌else◌, Some, None, MatchOption, ◌==◌};
+ghost use Rattle.std.specs.Prelude.{◌≡◌, ◌+◌, true, false, length, drop, is_ok, if◌then◌else◌, Some, None, MatchOption, ◌==◌, codes};
 ghost use Rattle.votes.specs.Votes.{numbers_of};
 ghost use Rattle.votes.specs.Frames.{frame, frame_size, frame_length, header as header_of, readable, fields, stands_for, ReadsBack, WritesBack, UnreadableIsEmpty};
 
@@ -34,6 +34,8 @@ fn frame_length<V: Value>() -> u16
 pub struct WrongSize;
 
 impl fmt::Display for WrongSize {
+    ghost output = { λ _. Some (codes "the buffer is not as long as a frame") };
+
     fn fmt<W: fmt::Write>(&self, f: &mut fmt::Formatter<W>) -> fmt::Result {
         f.write_str("the buffer is not as long as a frame")
     }

@@ -1,5 +1,6 @@
 // The six kinds of vote by name, with the number and the shape of each.
-ghost use Rattle.std.specs.Prelude.{◌≡◌};
+ghost use Rattle.std.specs.Prelude.{◌≡◌, ◌++◌, Some, codes};
+ghost use Rattle.std.specs.Fmt.{decimal};
 ghost use Rattle.votes.specs.Votes.{code_of, Names, ballot, shape_of};
 
 use crate::vote::MAX_CP;
@@ -87,6 +88,8 @@ impl TryFrom<u8> for Kind {
 }
 
 impl fmt::Display for UnknownKind {
+    ghost output = { λ unknown. Some (codes "no kind of vote has number " ++ decimal unknown.0) };
+
     fn fmt<W: fmt::Write>(&self, f: &mut fmt::Formatter<W>) -> fmt::Result {
         write!(f, "no kind of vote has number {}", self.0)
     }
