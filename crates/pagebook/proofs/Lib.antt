@@ -2,3 +2,4 @@
 pub mod Reading
 pub mod Listing
 pub mod Filling
+pub mod Ignored

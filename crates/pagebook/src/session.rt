@@ -44,7 +44,7 @@ fn first_mark(line: &[u8]) -> Option<u8>
 fn is_ignored(line: &[u8]) -> bool
     ensures { result ≡ ignored line.now }
 {
-    matches!(first_mark(line), None | Some(b'#'))
+    first_mark(line).unwrap_or(b'#') == b'#'
 }
 
 // What a line prints once the kind of value is named: itself, an arrow and its answer.
