@@ -4,13 +4,11 @@ use Rattle.std.specs.Option.{SomeIff, option_map}
 use Rattle.std.specs.Str.Parse.{IsNumeral, digits_value}
 use Rattle.std.specs.declared.alloc.Global.{Global}
 use Rattle.std.specs.Str.{bytes_eq}
-use Rattle.pagebook.specs.Verbs.{verb_named}
+use Rattle.pagebook.specs.Verbs.{Verb, Frame, Read, Post, Fill, Poke, Send, Fetch, Count, Votes, verb_named}
 use Rattle.pagebook.specs.declared.command.Command.{Command}
 use Rattle.pagebook.specs.declared.command.Command.TheVariants as commands
 use Rattle.pagebook.specs.declared.command.Look.{Look}
 use Rattle.pagebook.specs.declared.command.Look.TheVariants as looks
-use Rattle.pagebook.specs.declared.verb.Verb.{Verb}
-use Rattle.pagebook.specs.declared.verb.Verb.TheVariants.{Frame, Read, Post, Fill, Poke, Send, Fetch, Count, Votes}
 use Rattle.text.specs.VoteWords.{VoteReads}
 use Rattle.text.specs.declared.text_value.TextValue.{Ghosts as Texts}
 use Rattle.values.specs.declared.value.Value.{Ghosts}

@@ -1,8 +1,18 @@
 -- The verbs by their words. Assumes nothing.
 use Rattle.std.specs.Prelude.{ℕ, cond, List, [], ◌∷◌, Some, None, codes, Option}
 use Rattle.std.specs.Str.{bytes_eq}
-use Rattle.pagebook.specs.declared.verb.Verb.{Verb}
-use Rattle.pagebook.specs.declared.verb.Verb.TheVariants.{Frame, Read, Post, Fill, Poke, Send, Fetch, Count, Votes}
+
+-- the first word of a line, which says what the line asks
+pub data Verb : Type 0 where
+  Frame : Verb
+  Read : Verb
+  Post : Verb
+  Fill : Verb
+  Poke : Verb
+  Send : Verb
+  Fetch : Verb
+  Count : Verb
+  Votes : Verb
 
 abbrev pub verb_word : Verb → List ℕ
 verb_word Frame = codes "frame"
@@ -20,6 +30,9 @@ abbrev pub verb_among : List Verb → List ℕ → Option Verb
 verb_among [] word = None
 verb_among (v ∷ vs) word = cond (bytes_eq word (verb_word v)) (Some v) (verb_among vs word)
 
+abbrev pub verbs : List Verb
+verbs = Frame ∷ Read ∷ Post ∷ Fill ∷ Poke ∷ Send ∷ Fetch ∷ Count ∷ Votes ∷ []
+
 -- the verb that a word names, if it names one
 abbrev pub verb_named : List ℕ → Option Verb
-verb_named word = verb_among (Frame ∷ Read ∷ Post ∷ Fill ∷ Poke ∷ Send ∷ Fetch ∷ Count ∷ Votes ∷ []) word
+verb_named word = verb_among verbs word
