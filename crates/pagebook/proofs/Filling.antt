@@ -1,9 +1,9 @@
 -- A post that starts at a place sends there, where that is below the capacity. Assumes nothing.
-use Rattle.std.proofs.Common.{◌≡◌, ℕ, min, Bool, true, false, cond, ltb, length, set, Ok, Err, Some, None, Option, Result, refl, ap, ◌∙◌, arith}
+use Rattle.std.proofs.Common.{◌≡◌, ℕ, min, Bool, true, false, cond, ltb, set, Ok, Err, Some, None, Result, refl, ap, ◌∙◌, arith}
 use Rattle.std.proofs.lemmas.Bool.{lt-ltb, le-ltb, ltb-true, ltb-false}
 use Rattle.std.specs.Result.{result_or}
 use Rattle.pagebook.specs.Desks.{Held, records, octets, Writes, filled, sent_to, memory_after}
-use Rattle.posts.specs.Memories.{table_capacity, table_votes, table_after, frame_capacity, frame_votes, frames_in, frames_long, with_frame, bytes_after}
+use Rattle.posts.specs.Memories.{table_capacity, table_after, frame_capacity, frames_in, frames_long, with_frame, bytes_after}
 use Rattle.posts.specs.Posts.{sent}
 use Rattle.posts.specs.declared.fault.Fault.{Fault}
 use Rattle.posts.proofs.Holding.{held_count}

@@ -3,3 +3,4 @@ pub mod Reading
 pub mod Listing
 pub mod Filling
 pub mod Ignored
+pub mod Telling

@@ -12,7 +12,6 @@ mod scenarios;
 mod session;
 #[cfg(test)]
 mod tests;
-mod verb;
 
 use fault::Fault;
 use session::Session;

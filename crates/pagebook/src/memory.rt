@@ -31,12 +31,10 @@ fn send_to<L: Layout>(
     vote: &Vote<L::Value>,
 ) -> Result<(), Fault>
     ensures value { result ≡ sent L.layer (cut (L.places memory.old)) (held count.old (L.votes memory.old)) }
-    ensures memory {
-        memory.new
+    ensures memory { memory.new
         ≡ (if has_room (cut (L.places memory.old)) (held count.old (L.votes memory.old))
-           then L.put (length (held count.old (L.votes memory.old))) vote.now memory.old
-           else memory.old)
-    }
+        then L.put (length (held count.old (L.votes memory.old))) vote.now memory.old
+        else memory.old) }
     ensures count { count.new ≡ length (after_send (cut (L.places memory.old)) (held count.old (L.votes memory.old)) vote.now) }
 {
     let mut post = MemoryPost::<L>::new(memory, *count);
@@ -104,13 +102,23 @@ impl<V: TextValue> Memory<V> {
     }
 
     // What a look at the post with a count shows.
-    pub(crate) fn look(&mut self, heap: Global, count: usize, look: Look) -> Result<String, AllocError>
+    pub(crate) fn look(
+        &mut self,
+        heap: Global,
+        count: usize,
+        look: Look,
+    ) -> Result<String, AllocError>
         ensures value { IfOk result (λ s. string_bytes s ≡ shown V.Value V.TextValue.own look count (held_in self.old)) }
         ensures same { held_in self.new ≡ held_in self.old }
     {
         match self {
             Memory::Table(table) => look_at::<V, Table<V>>(heap, table.as_mut_slice(), count, look),
-            Memory::Frames(bytes) => look_at::<V, Frames<V>>(heap, bytes.as_mut_slice(), count, look),
+            Memory::Frames(bytes) => look_at::<V, Frames<V>>(
+                heap,
+                bytes.as_mut_slice(),
+                count,
+                look,
+            ),
         }
     }
 }

@@ -1,10 +1,10 @@
 // What posts answer in whole scenarios: the transcripts of the files in data/.
-use super::fault::Fault;
 use super::session::Session;
 use std::alloc::Global;
+use words::refusal::Refusal;
 
 // What a scenario prints, up to its first line that is refused.
-fn transcript(heap: Global, scenario: &str) -> Result<String, Fault> {
+fn transcript(heap: Global, scenario: &str) -> Result<String, Refusal> {
     let mut session = Session::new();
     let mut text = String::new(heap);
     for line in scenario.split('\n') {

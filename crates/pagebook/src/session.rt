@@ -1,10 +1,10 @@
 // A session: what the lines so far have settled, and the answer to the next one.
-ghost use Rattle.std.specs.Prelude.{◌≡◌, IfSome, not, ◌==◌};
+ghost use Rattle.std.specs.Prelude.{◌≡◌, IfSome, MatchResult, not, string_bytes, ◌==◌};
 ghost use Rattle.std.specs.List.{find};
 ghost use Rattle.words.specs.Refusals.{IfRead};
 ghost use Rattle.pagebook.specs.Desks.{view};
-ghost use Rattle.pagebook.specs.Sessions.{Answers, Replies, begun, outcome_of, session_view, spoken, stage_of};
-ghost use Rattle.pagebook.specs.Stages.{Responds, ignored, stage_named};
+ghost use Rattle.pagebook.specs.Sessions.{Answers, Replies, Speaks, begun, outcome_of, session_view, spoken, stage_of};
+ghost use Rattle.pagebook.specs.Stages.{Prints, Responds, Settles, ignored, stage_named};
 ghost use Rattle.pagebook.specs.declared.session.Stage.TheVariants.{Start};
 
 use super::desk::Desk;
@@ -87,6 +87,23 @@ impl Session {
         }
     }
 
+    // What a line prints that is text and not ignored.
+    fn speak(&mut self, heap: Global, line: &str) -> Result<String, Refusal>
+        ensures settles { MatchResult result (λ s. Prints line.now (string_bytes s) × Settles (stage_of self.old) line.now (stage_of self.new)) (λ _. stage_of self.new ≡ stage_of self.old) }
+        ensures replies { IfRead result (λ text. Speaks (session_view self.old) line.now (spoken text) (session_view self.new)) }
+    {
+        match self {
+            Session::Rates(desk) => answer(heap, desk, line),
+            Session::Fingerprints(desk) => answer(heap, desk, line),
+            Session::Start => {
+                let stage = settle(line).ok_or(Refusal::Malformed)?;
+                let text = format!(in heap; "{line} -> 0")?;
+                *self = Session::at(stage);
+                Ok(text)
+            }
+        }
+    }
+
     // What a line prints, if it prints anything.
     pub(crate) fn respond(&mut self, heap: Global, line: &[u8]) -> Result<Option<String>, Refusal>
         ensures settles { Responds (stage_of self.old) line.now result (stage_of self.new) }
@@ -96,16 +113,6 @@ impl Session {
             return Ok(None);
         }
         let line = from_utf8(line).map_err(|_| Refusal::Malformed)?;
-        let text = match self {
-            Session::Rates(desk) => answer(heap, desk, line)?,
-            Session::Fingerprints(desk) => answer(heap, desk, line)?,
-            Session::Start => {
-                let stage = settle(line).ok_or(Refusal::Malformed)?;
-                let text = format!(in heap; "{line} -> 0")?;
-                *self = Session::at(stage);
-                text
-            }
-        };
-        Ok(Some(text))
+        Ok(Some(self.speak(heap, line)?))
     }
 }

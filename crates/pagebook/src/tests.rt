@@ -1,7 +1,7 @@
 // What a session answers to lines that are malformed, ignored or in order.
-use super::fault::Fault;
 use super::session::Session;
 use std::alloc::Global;
+use words::refusal::Refusal;
 
 // Lines that no session takes once rates are settled.
 const MALFORMED: &str = "values rate
@@ -32,7 +32,7 @@ read 00 00
 read 00\r";
 
 fn is_malformed(session: &mut Session, heap: Global, line: &[u8]) -> bool {
-    matches!(session.respond(heap, line), Err(Fault::Malformed))
+    matches!(session.respond(heap, line), Err(Refusal::Malformed))
 }
 
 fn is_silent(session: &mut Session, heap: Global, line: &[u8]) -> bool {
