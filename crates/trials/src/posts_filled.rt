@@ -1,25 +1,24 @@
 // Posts of both memories at both kinds of value: filled up, refused, and read back.
 use posts::fault::Layer;
-use posts::frames::Frames;
-use posts::memory_post::MemoryPost;
+use posts::memory_post::{FramePost, TablePost};
 use posts::post::Post;
-use posts::table::Table;
 use values::fingerprint::Fingerprint;
 use values::rate::Rate;
 use values::value::Value;
+use votes::numbers::Numbers;
 use votes::vote::Vote;
 
 // A vote by a house, with every field of it different.
 fn vote_of<V: Value>(house: u8, value: V) -> Vote<V> {
-    Vote {
+    let numbers = Numbers {
         kind: 2,
         page: 70_000,
         round: 300,
         house,
         cp: 5,
         val: 6,
-        value,
-    }
+    };
+    Vote { numbers, value }
 }
 
 // Sends a vote of each house from 0 on, so many that the last is refused, and reads them back.
@@ -45,7 +44,8 @@ fn holds<V: Value, P: Post<Value = V>>(post: &P, value: V, room: u8) -> bool {
         let Ok(numbers) = post.numbers(house as usize) else {
             return false;
         };
-        let alike = vote.house == house && vote.page == 70_000 && vote.round == 300;
+        let n = vote.numbers;
+        let alike = n.house == house && n.page == 70_000 && n.round == 300;
         if !(alike && vote.value.same(&value) && numbers.house == house && numbers.val == 6) {
             return false;
         }
@@ -59,19 +59,13 @@ fn holds<V: Value, P: Post<Value = V>>(post: &P, value: V, room: u8) -> bool {
 #[test]
 fn a_table_fills_up_and_is_read_back(rt: HostRuntime) {
     let mut rates = [Vote::<Rate>::empty(); 3];
-    assert!(rt;
-        fills_up(
-            &mut MemoryPost::new(Table::over(&mut rates), 0),
-            Rate { amount: -7 },
-            3
-        )
-    );
-    assert_eq!(rt; rates[2].house, 2);
+    assert!(rt; fills_up(&mut TablePost::new(&mut rates, 0), Rate { amount: -7 }, 3));
+    assert_eq!(rt; rates[2].numbers.house, 2);
     let mut prints = [Vote::<Fingerprint>::empty(); 2];
     let print = Fingerprint {
         words: [1, 2, 3, 4],
     };
-    assert!(rt; fills_up(&mut MemoryPost::new(Table::over(&mut prints), 0), print, 2));
+    assert!(rt; fills_up(&mut TablePost::new(&mut prints, 0), print, 2));
 }
 
 #[test]
@@ -79,7 +73,7 @@ fn frames_fill_up_and_leave_the_rest_of_the_bytes(rt: HostRuntime) {
     let mut bytes = [0xee; 70];
     assert!(rt;
         fills_up(
-            &mut MemoryPost::new(Frames::<Rate>::over(&mut bytes), 0),
+            &mut FramePost::<Rate>::new(&mut bytes, 0),
             Rate { amount: -7 },
             3,
         )
@@ -91,56 +85,41 @@ fn frames_fill_up_and_leave_the_rest_of_the_bytes(rt: HostRuntime) {
     let print = Fingerprint {
         words: [1, 2, 3, 4],
     };
-    assert!(rt;
-        fills_up(
-            &mut MemoryPost::new(Frames::<Fingerprint>::over(&mut bytes), 0),
-            print,
-            2
-        )
-    );
+    assert!(rt; fills_up(&mut FramePost::<Fingerprint>::new(&mut bytes, 0), print, 2));
     assert!(rt; bytes[90..100] == [0xee; 10]);
 }
 
 #[test]
 fn a_starting_count_is_cut_to_the_capacity(rt: HostRuntime) {
     let mut table = [Vote::<Rate>::empty(); 1_025];
-    assert_eq!(rt; MemoryPost::new(Table::over(&mut table), 9).count(), 9);
-    assert_eq!(rt;
-        MemoryPost::new(Table::over(&mut table), usize::MAX).count(),
-        1_024
-    );
+    assert_eq!(rt; TablePost::new(&mut table, 9).count(), 9);
+    assert_eq!(rt; TablePost::new(&mut table, usize::MAX).count(), 1_024);
     let mut bytes = [0; 41];
-    assert_eq!(rt;
-        MemoryPost::new(Frames::<Rate>::over(&mut bytes), 5).count(),
-        1
-    );
+    assert_eq!(rt; FramePost::<Rate>::new(&mut bytes, 5).count(), 1);
     let mut bytes = [0; 21_525];
-    assert_eq!(rt;
-        MemoryPost::new(Frames::<Rate>::over(&mut bytes), 5_000).count(),
-        1_024
-    );
+    assert_eq!(rt; FramePost::<Rate>::new(&mut bytes, 5_000).count(), 1_024);
 }
 
 #[test]
 fn memory_of_less_than_a_vote_holds_none(rt: HostRuntime) {
     let mut bytes = [0; 20];
-    assert_eq!(rt; Frames::<Rate>::check(&bytes).is_err(), true);
-    assert_eq!(rt; Frames::<Rate>::check(&[0; 21]).is_ok(), true);
-    assert_eq!(rt; Table::<Rate>::check(&[]).is_err(), true);
-    let mut post = MemoryPost::new(Frames::<Rate>::over(&mut bytes), 3);
+    assert_eq!(rt; FramePost::<Rate>::check(&bytes).is_err(), true);
+    assert_eq!(rt; FramePost::<Rate>::check(&[0; 21]).is_ok(), true);
+    assert_eq!(rt; TablePost::<Rate>::check(&[]).is_err(), true);
+    let mut post = FramePost::<Rate>::new(&mut bytes, 3);
     match post.send(&Vote::empty()) {
         Ok(()) => assert!(rt; false),
-        Err(fault) => assert!(rt; fault.place == 0 && matches!(fault.layer, Layer::Frame)),
+        Err(fault) => assert!(rt; fault.place == 0 && fault.layer == Layer::Frame),
     }
 }
 
 #[test]
 fn an_unreadable_frame_is_a_vote_of_kind_0(rt: HostRuntime) {
     let mut bytes = [0x77; 42];
-    let post = MemoryPost::new(Frames::<Rate>::over(&mut bytes), 2);
+    let post = FramePost::<Rate>::new(&mut bytes, 2);
     match post.fetch(1) {
         Ok(vote) => assert!(rt;
-            vote.kind == 0 && vote.page == 0 && vote.value.same(&Rate::blank())
+            vote.numbers.kind == 0 && vote.numbers.page == 0 && vote.value.same(&Rate::blank())
         ),
         Err(_) => assert!(rt; false),
     }
