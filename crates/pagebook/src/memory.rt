@@ -1,9 +1,10 @@
 // The memory of a post, of either kind, and the calls on a post over it.
-ghost use Rattle.std.specs.Prelude.{◌≡◌, IfOk, if◌then◌else◌, length, string_bytes};
+ghost use Rattle.std.specs.Prelude.{◌≡◌, IfOk, length, string_bytes};
 ghost use Rattle.pagebook.specs.Answers.{look_answer};
 ghost use Rattle.pagebook.specs.Desks.{Writes, capacity_of, count_after, filled, held_in, memory_after, poked, sent_to, shown};
-ghost use Rattle.posts.specs.Memories.{cut, held, memory_check};
-ghost use Rattle.posts.specs.Posts.{after_send, has_room, sent};
+ghost use Rattle.posts.specs.Layouts.{capacity_in, memory_after_send, votes_in};
+ghost use Rattle.posts.specs.Memories.{memory_check};
+ghost use Rattle.posts.specs.Posts.{after_send, sent};
 
 use super::answers::look_text;
 use super::command::Look;
@@ -30,12 +31,9 @@ fn send_to<L: Layout>(
     count: &mut usize,
     vote: &Vote<L::Value>,
 ) -> Result<(), Fault>
-    ensures value { result ≡ sent L.layer (cut (L.places memory.old)) (held count.old (L.votes memory.old)) }
-    ensures memory { memory.new
-        ≡ (if has_room (cut (L.places memory.old)) (held count.old (L.votes memory.old))
-        then L.put (length (held count.old (L.votes memory.old))) vote.now memory.old
-        else memory.old) }
-    ensures count { count.new ≡ length (after_send (cut (L.places memory.old)) (held count.old (L.votes memory.old)) vote.now) }
+    ensures value { result ≡ sent L.layer (capacity_in L.Layout memory.old) (votes_in L.Layout count.old memory.old) }
+    ensures memory { memory.new ≡ memory_after_send L.Layout count.old memory.old vote.now }
+    ensures count { count.new ≡ length (after_send (capacity_in L.Layout memory.old) (votes_in L.Layout count.old memory.old) vote.now) }
 {
     let mut post = MemoryPost::<L>::new(memory, *count);
     let sent = post.send(vote);
@@ -50,7 +48,7 @@ fn look_at<V: TextValue, L: Layout<Value = V>>(
     count: usize,
     look: Look,
 ) -> Result<String, AllocError>
-    ensures value { IfOk result (λ s. string_bytes s ≡ look_answer V.Value V.TextValue.own L.layer (held count (L.votes memory.old)) look) }
+    ensures value { IfOk result (λ s. string_bytes s ≡ look_answer V.Value V.TextValue.own L.layer (votes_in L.Layout count memory.old) look) }
     ensures same { memory.new ≡ memory.old }
 {
     look_text(heap, &MemoryPost::<L>::new(memory, count), look)

@@ -1,6 +1,8 @@
 // A session: what the lines so far have settled, and the answer to the next one.
 ghost use Rattle.std.specs.Prelude.{◌≡◌, IfSome, MatchResult, not, string_bytes, ◌==◌};
 ghost use Rattle.std.specs.List.{find};
+ghost use Rattle.std.specs.Option.{ok_or};
+ghost use Rattle.words.specs.declared.refusal.Refusal.TheVariants.{Malformed};
 ghost use Rattle.words.specs.Refusals.{IfRead};
 ghost use Rattle.pagebook.specs.Desks.{view};
 ghost use Rattle.pagebook.specs.Sessions.{Answers, Replies, Speaks, begun, outcome_of, session_view, spoken, stage_of};
@@ -10,14 +12,14 @@ ghost use Rattle.pagebook.specs.declared.session.Stage.TheVariants.{Start};
 use super::desk::Desk;
 use super::read_command::read_command;
 use std::alloc::Global;
-use std::str::from_utf8;
+use std::str::{FromStr, from_utf8};
 use text::text_value::TextValue;
 use values::fingerprint::Fingerprint;
 use values::rate::Rate;
 use words::line::words_of;
 use words::refusal::Refusal;
 
-#[derive(Clone, Copy)]
+#[derive(Clone, Copy, Debug, PartialEq, Eq)]
 pub(crate) enum Stage {
     // The kind of value is yet to be named.
     Start,
@@ -57,14 +59,18 @@ fn answer<V: TextValue>(heap: Global, desk: &mut Desk<V>, line: &str) -> Result<
     Ok(format!(in heap; "{line} -> {answer}")?)
 }
 
-// The stage that a line names, if it names a kind of value.
-fn settle(line: &str) -> Option<Stage>
-    ensures { result ≡ stage_named line.now }
-{
-    match line {
-        "values rate" => Some(Stage::Rates),
-        "values fingerprint" => Some(Stage::Fingerprints),
-        _ => None,
+impl FromStr for Stage {
+    type Err = Refusal;
+
+    // The stage that a line names, if it names a kind of value.
+    ghost from_str_gives = { λ line r. r ≡ ok_or (stage_named line) Malformed };
+
+    fn from_str(line: &str) -> Result<Stage, Refusal> {
+        match line {
+            "values rate" => Ok(Stage::Rates),
+            "values fingerprint" => Ok(Stage::Fingerprints),
+            _ => Err(Refusal::Malformed),
+        }
     }
 }
 
@@ -96,7 +102,7 @@ impl Session {
             Session::Rates(desk) => answer(heap, desk, line),
             Session::Fingerprints(desk) => answer(heap, desk, line),
             Session::Start => {
-                let stage = settle(line).ok_or(Refusal::Malformed)?;
+                let stage = line.parse()?;
                 let text = format!(in heap; "{line} -> 0")?;
                 *self = Session::at(stage);
                 Ok(text)

@@ -2,3 +2,4 @@
 pub mod Faults
 pub mod Posts
 pub mod Memories
+pub mod Layouts

@@ -1,5 +1,5 @@
 // What holds the votes of a post: lent memory, in which a layout says where each vote lies.
-ghost use Rattle.std.specs.Prelude.{◌≡◌, ℕ, List, if◌then◌else◌, length, nat_lt, slice_set};
+ghost use Rattle.std.specs.Prelude.{◌≡◌, ℕ, List, Some as some, codes, if◌then◌else◌, length, nat_lt, slice_set};
 ghost use Rattle.std.specs.List.{slice_get};
 ghost use Rattle.std.specs.Option.{option_map};
 ghost use Rattle.posts.specs.Memories.{too_small_code};
@@ -8,6 +8,8 @@ ghost use Rattle.votes.specs.Votes.{numbers_of};
 ghost use Rattle.votes.specs.declared.vote.Vote.{Vote as VoteOf};
 
 use crate::fault::Layer;
+use std::error::Error;
+use std::fmt;
 use values::value::Value;
 use votes::numbers::Numbers;
 use votes::vote::Vote;
@@ -19,7 +21,18 @@ pub const MOST_VOTES: usize = 1_024;
 #[derive(Clone, Copy, Debug, PartialEq, Eq)]
 pub struct TooSmall;
 
+impl fmt::Display for TooSmall {
+    ghost output = { λ _. some (codes "the memory is too small for a vote") };
+
+    fn fmt<W: fmt::Write>(&self, f: &mut fmt::Formatter<W>) -> fmt::Result {
+        f.write_str("the memory is too small for a vote")
+    }
+}
+
+impl Error for TooSmall {}
+
 impl TooSmall {
+    // As the program's text tells it, where 0 is memory that holds a vote.
     pub fn code(self) -> u8
         ensures { result ≡ too_small_code }
     {

@@ -1,7 +1,8 @@
 // The post over memory of any layout: how many of the votes that stand there are those of the post.
-ghost use Rattle.std.specs.Prelude.{◌≡◌, if◌then◌else◌, length, min};
-ghost use Rattle.posts.specs.Memories.{cut, cut_limited, held, held_within, memory_check};
-ghost use Rattle.posts.specs.Posts.{after_send, has_room, sent};
+ghost use Rattle.std.specs.Prelude.{◌≡◌, min};
+ghost use Rattle.posts.specs.Layouts.{capacity_in, memory_after_send, votes_in};
+ghost use Rattle.posts.specs.Memories.{cut_limited, held_within, memory_check};
+ghost use Rattle.posts.specs.Posts.{after_send, sent};
 
 use crate::fault::Fault;
 use crate::frames::Frames;
@@ -25,7 +26,7 @@ pub struct MemoryPost<'a, L: Layout> {
 
 // How many votes a post over this memory may hold.
 fn capacity_of<L: Layout>(memory: &[L::Item]) -> usize
-    ensures { result ≡ cut (L.places memory.now) }
+    ensures { result ≡ capacity_in L.Layout memory.now }
 {
     L::places(memory).min(MOST_VOTES)
 }
@@ -43,7 +44,7 @@ fn fault_at<L: Layout>(place: usize) -> Fault
 impl<'a, L: Layout> MemoryPost<'a, L> {
     // Whether memory can hold a vote.
     pub fn check(memory: &[L::Item]) -> Result<(), TooSmall>
-        ensures { result ≡ memory_check (cut (L.places memory.now)) }
+        ensures { result ≡ memory_check (capacity_in L.Layout memory.now) }
     {
         if capacity_of::<L>(memory) == 0 {
             Err(TooSmall)
@@ -54,8 +55,8 @@ impl<'a, L: Layout> MemoryPost<'a, L> {
 
     // A post whose first votes are those in the memory, as many as stated or as it may hold.
     pub fn new(memory: &'a mut [L::Item], count: usize) -> MemoryPost<'a, L>
-        ensures count { result.count ≡ min count (cut (L.places memory.old)) }
-        ensures votes { held result.count (L.votes result.memory.now) ≡ held count (L.votes memory.old) }
+        ensures count { result.count ≡ min count (capacity_in L.Layout memory.old) }
+        ensures votes { votes_in L.Layout result.count result.memory.now ≡ votes_in L.Layout count memory.old }
         ensures same { result.memory.now ≡ memory.old }
         ensures lent { result.memory.ghost_name ≡ memory.entry.ghost_name }
     {
@@ -68,7 +69,7 @@ impl<'a, L: Layout> MemoryPost<'a, L> {
     }
 
     fn capacity(&self) -> usize
-        ensures { result ≡ cut (L.places self.now.memory.now) }
+        ensures { result ≡ capacity_in L.Layout self.now.memory.now }
     {
         capacity_of::<L>(self.memory)
     }
@@ -77,9 +78,9 @@ impl<'a, L: Layout> MemoryPost<'a, L> {
 impl<'a, L: Layout> Post for MemoryPost<'a, L> {
     type Value = L::Value;
 
-    ghost votes = { λ post. held post.count (L.votes post.memory.now) };
+    ghost votes = { λ post. votes_in L.Layout post.count post.memory.now };
 
-    ghost capacity = { λ post. cut (L.places post.memory.now) };
+    ghost capacity = { λ post. capacity_in L.Layout post.memory.now };
 
     ghost layer = { L.layer };
 
@@ -88,13 +89,10 @@ impl<'a, L: Layout> Post for MemoryPost<'a, L> {
     ghost limited = { λ post. cut_limited (L.places post.memory.now) };
 
     fn send(&mut self, vote: &Vote<L::Value>) -> Result<(), Fault>
-        ensures value { result ≡ sent L.layer (cut (L.places self.old.memory.now)) (held self.old.count (L.votes self.old.memory.now)) }
-        ensures after { held self.new.count (L.votes self.new.memory.now) ≡ after_send (cut (L.places self.old.memory.now)) (held self.old.count (L.votes self.old.memory.now)) vote.now }
-        ensures same { cut (L.places self.new.memory.now) ≡ cut (L.places self.old.memory.now) }
-        ensures memory { self.new.memory.now
-            ≡ (if has_room (cut (L.places self.old.memory.now)) (held self.old.count (L.votes self.old.memory.now))
-            then L.put (length (held self.old.count (L.votes self.old.memory.now))) vote.now self.old.memory.now
-            else self.old.memory.now) }
+        ensures value { result ≡ sent L.layer (capacity_in L.Layout self.old.memory.now) (votes_in L.Layout self.old.count self.old.memory.now) }
+        ensures after { votes_in L.Layout self.new.count self.new.memory.now ≡ after_send (capacity_in L.Layout self.old.memory.now) (votes_in L.Layout self.old.count self.old.memory.now) vote.now }
+        ensures same { capacity_in L.Layout self.new.memory.now ≡ capacity_in L.Layout self.old.memory.now }
+        ensures memory { self.new.memory.now ≡ memory_after_send L.Layout self.old.count self.old.memory.now vote.now }
         ensures lent { self.new.memory.ghost_name ≡ self.old.memory.ghost_name }
     {
         let count = self.count();

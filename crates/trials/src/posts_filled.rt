@@ -24,24 +24,21 @@ fn vote_of<V: Value>(house: u8, value: V) -> Vote<V> {
 // Sends a vote of each house from 0 on, so many that the last is refused, and reads them back.
 fn fills_up<V: Value, P: Post<Value = V>>(post: &mut P, value: V, room: u8) -> bool {
     for house in 0..room {
-        if post.count() != house as usize || post.send(&vote_of(house, value)).is_err() {
+        if post.count() != usize::from(house) || post.send(&vote_of(house, value)).is_err() {
             return false;
         }
     }
-    let refused = match post.send(&vote_of(room, value)) {
-        Ok(()) => false,
-        Err(fault) => fault.place == room as usize,
-    };
-    refused && post.count() == room as usize && holds(post, value, room)
+    let full = usize::from(room);
+    matches!(post.send(&vote_of(room, value)), Err(fault) if fault.place == full)
+        && post.count() == full
+        && holds(post, value, room)
 }
 
 // Whether the votes of the houses below `room` are there, and none after them.
 fn holds<V: Value, P: Post<Value = V>>(post: &P, value: V, room: u8) -> bool {
     for house in 0..room {
-        let Ok(vote) = post.fetch(house as usize) else {
-            return false;
-        };
-        let Ok(numbers) = post.numbers(house as usize) else {
+        let place = usize::from(house);
+        let (Ok(vote), Ok(numbers)) = (post.fetch(place), post.numbers(place)) else {
             return false;
         };
         let n = vote.numbers;
@@ -50,10 +47,11 @@ fn holds<V: Value, P: Post<Value = V>>(post: &P, value: V, room: u8) -> bool {
             return false;
         }
     }
-    match (post.fetch(room as usize), post.numbers(room as usize)) {
-        (Err(a), Err(b)) => a.place == room as usize && b.place == room as usize,
-        _ => false,
-    }
+    let past = usize::from(room);
+    matches!(
+        (post.fetch(past), post.numbers(past)),
+        (Err(a), Err(b)) if a.place == past && b.place == past
+    )
 }
 
 #[test]
