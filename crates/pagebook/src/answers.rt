@@ -48,7 +48,7 @@ pub(crate) fn check_text(heap: Global, checked: Result<(), TooSmall>) -> Result<
     }
 }
 
-// Whether a vote was sent.
+// Whether a vote was sent. The numbers 11, here, and 12, below, are of the text format.
 pub(crate) fn sent_text(heap: Global, sent: Result<(), Fault>) -> Result<String, AllocError>
     ensures { IfOk result (λ s. string_bytes s ≡ sent_answer sent) }
 {

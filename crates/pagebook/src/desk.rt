@@ -16,7 +16,7 @@ pub(crate) struct Desk<V> {
     memory: Option<Memory<V>>,
     // The count that the next post over the memory starts with.
     count: usize,
-    // Whether the post was called: from then on its memory is not written otherwise.
+    // Whether the post was called: from then on its memory is not written otherwise. A state of its own would move the memory at that call.
     called: bool,
 }
 
@@ -64,6 +64,7 @@ impl<V: TextValue> Desk<V> {
         Ok(memory.look(heap, self.count, look)?)
     }
 
+    // `fill` and `poke` differ in one call: a closure for that would need a contract as long as both.
     fn fill(&mut self, heap: Global, place: usize, vote: Vote<V>) -> Result<String, Refusal>
         ensures { IfRead result (λ answer. Replied (prepare (filled V.Value place vote) (view self.old)) answer (view self.old) (view self.new)) }
     {

@@ -32,7 +32,7 @@ impl fmt::Display for TooSmall {
 impl Error for TooSmall {}
 
 impl TooSmall {
-    // As the program's text tells it, where 0 is memory that holds a vote.
+    // The text format tells it by a number, beside 0 for memory that holds a vote.
     pub fn code(self) -> u8
         ensures { result ≡ too_small_code }
     {

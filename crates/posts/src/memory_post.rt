@@ -20,6 +20,7 @@ pub type FramePost<'a, V> = MemoryPost<'a, Frames<V>>;
 #[derive(Drop)]
 pub struct MemoryPost<'a, L: Layout> {
     memory: &'a mut [L::Item],
+    // Lent memory has a fixed length, so how many of its votes are those of the post stands beside it.
     count: usize,
     layout: PhantomData<L>,
 }
@@ -108,6 +109,7 @@ impl<'a, L: Layout> Post for MemoryPost<'a, L> {
         self.count.min(self.capacity())
     }
 
+    // `fetch` and `numbers` differ in what they read: a closure for that would need a contract as long as both.
     fn fetch(&self, place: usize) -> Result<Vote<L::Value>, Fault> {
         let vote = if place < self.count() {
             L::get(self.memory, place)

@@ -26,6 +26,7 @@ pub fn frame_size<V: Value>() -> usize
 fn frame_length<V: Value>() -> u16
     ensures { result ≡ frame_length V.Value }
 {
+    // No kind of value is wider than 32 bytes, so the cast keeps the number.
     (HEADER - 2 + V::width()) as u16
 }
 

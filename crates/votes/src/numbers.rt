@@ -1,6 +1,7 @@
 // The six numbers of a vote, apart from its value.
 
-// All zero by default, as in the vote that an unreadable frame stands for.
+// The numbers have the widths of a frame's fields, so that a vote may also be one that no circle takes: its kind too is a number, since a
+// readable frame may hold any. All are zero by default, as in the vote that an unreadable frame stands for.
 #[derive(Clone, Copy, Debug, PartialEq, Eq, Default)]
 pub struct Numbers {
     pub kind: u8,

@@ -12,7 +12,6 @@ pub const MAX_ROUND: u16 = 63;
 
 pub const MAX_CP: u8 = 15;
 
-// The numbers have the widths of a frame's fields, so a vote may also be one that no circle takes.
 #[derive(Clone, Copy, Debug, PartialEq, Eq)]
 pub struct Vote<V> {
     pub numbers: Numbers,
