@@ -2,3 +2,4 @@
 pub mod Calls
 pub mod Holding
 pub mod Standing
+pub mod Instances

@@ -90,12 +90,12 @@ module _ {V : Type 0} (G : Ghosts V) where
         length-append (take (n * s) bytes) (new ++ rest)
         ∙ omega (arith, front_long, length-append new rest, wide, length-drop (n * s + s) bytes, frame_inside bytes n room)
 
-    -- the frames before it are as they were, it is the next, and so are those after it
+    -- the frames before it are as they were, it stands for the vote, and those after it are as they were
     before : standing G n after ≡ standing G n bytes
     before = standing_same n after bytes (take_at (take (n * frame_size G) bytes) _ (n * frame_size G) front_long)
 
-    itself : stands_for G (frame_at G n after) ≡ v
-    itself =
+    pub frame_next : stands_for G (frame_at G n after) ≡ v
+    frame_next =
         let s = frame_size G in
         ap (λ bs. stands_for G (take s bs)) (drop_at (take (n * s) bytes) (new ++ drop (n * s + s) bytes) (n * s) front_long)
         ∙ ap (stands_for G) (take_at new (drop (n * s + s) bytes) s wide)
@@ -112,7 +112,7 @@ module _ {V : Type 0} (G : Ghosts V) where
 
     standing_last : standing G (suc n) after ≡ set (standing G (suc n) bytes) n v
     standing_last =
-        ap₂ (λ votes w. votes ++ w ∷ []) before itself
+        ap₂ (λ votes w. votes ++ w ∷ []) before frame_next
         ∙ sym (set-append_seam (standing G n bytes) _ [] v)
         ∙ ap (λ k. set (standing G (suc n) bytes) k v) (standing_long G n bytes)
 

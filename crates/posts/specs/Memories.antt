@@ -41,6 +41,9 @@ module _ {V : Type 0} where
   abbrev pub table_votes : ℕ → List (Vote V) → List (Vote V)
   table_votes count table = held count table
 
+  pub table_within : (count : ℕ) (table : List (Vote V)) → length (table_votes count table) ≤ table_capacity table
+  table_within count table = held_within count table (length table) refl
+
   -- the table after a vote was sent: its record alone is written
   unfoldable pub table_after : ℕ → List (Vote V) → Vote V → List (Vote V)
   table_after count table v =
@@ -79,6 +82,9 @@ module _ {V : Type 0} (G : Ghosts V) where
 
   pub frames_long : (bytes : List ℕ) → length (frames_in bytes) ≡ frame_places bytes
   frames_long bytes = standing_long (frame_places bytes) bytes
+
+  pub frame_within : (count : ℕ) (bytes : List ℕ) → length (frame_votes count bytes) ≤ frame_capacity bytes
+  frame_within count bytes = held_within count (frames_in bytes) (frame_places bytes) (frames_long bytes)
 
   -- the bytes with frame k written over, all others as they were
   abbrev pub with_frame : ℕ → List ℕ → List ℕ → List ℕ

@@ -23,6 +23,10 @@ first (pos n) small =
     inr (digit_at (decimal n) 0 numeral.1 numeral.0)
 first (negsuc n) small = inl refl
 
+-- so with neither a plus nor a letter
+begins_otherwise : (c n : ℕ) → (n < 45) ⊎ (57 < n) → (c ≡ 45) ⊎ IsInRange 48 57 c → c ≢ n
+begins_otherwise c n aside begins e = omega (arith, aside, begins, e)
+
 pub rate_single : (word : List ℕ) (o p : Option Rate) → RateReads word o → RateReads word p → o ≡ p
 rate_single word None None h k = refl
 rate_single word None (Some s) h k = absurd (h k.0)
@@ -31,8 +35,7 @@ rate_single word (Some r) (Some s) h k = ap Some (rate_from_amount r s (h.1 ∙ 
 
 pub rate_back : (r : Rate) (o : Option Rate) → RateReads (rate_text r) o → o ≡ Some r
 rate_back r None refused =
-    let begins = first r.amount r.fits in
-    let plain : slice_index (signed_decimal r.amount) 0 ≢ 43 = λ e. omega (arith, begins, e) in
+    let plain = begins_otherwise (slice_index (signed_decimal r.amount) 0) 43 (inl (omega arith)) (first r.amount r.fits) in
     let read : ◌≡◌ {A = Result ℤ ℕ} (Err 0) (Ok r.amount) =
     parse-signed_decimal w64 r.amount (signed_decimal r.amount) (Err 0) (record { sfits = r.fits }) r.fits refl (λ p. refused (plain, p.0, p.1)) in
     cc read
@@ -43,7 +46,7 @@ rate_back r (Some s) (word, same) =
     ap Some (rate_from_amount s r amounts)
 
 pub rate_apart : (r : Rate) → rate_text r ≢ codes "blank"
-rate_apart r e = omega (arith, first r.amount r.fits, ap (λ cs. slice_index cs 0) e)
+rate_apart r e = begins_otherwise (slice_index (signed_decimal r.amount) 0) 98 (inr (omega arith)) (first r.amount r.fits) (ap (λ cs. slice_index cs 0) e)
 
 length_fingerprint : (f : Fingerprint) → length (fingerprint_bytes f) ≡ 32
 length_fingerprint f = length_words f.words ∙ ap (λ n. 8 * n) f.four

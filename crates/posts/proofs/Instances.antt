@@ -1,0 +1,42 @@
+-- What the lemmas of a post over memory say of a table and of frames. Assumes nothing.
+use Rattle.std.proofs.Common.{◌≡◌, ℕ, ◌+◌, ◌<◌, ◌≤◌, List, length, set, Some, None, Ok, Err, Result, sym, refl, ap, ◌∙◌, arith}
+use Rattle.std.proofs.lemmas.Option.{slice_get_past}
+use Rattle.std.proofs.lemmas.Bool.{cond-true, lt-ltb}
+use Rattle.std.specs.List.{slice_get}
+use Rattle.std.specs.Result.{result_map_both}
+use Rattle.posts.specs.Posts.{after_send, fetched, fetched_numbers}
+use Rattle.posts.specs.Memories.{table_capacity, table_votes, frame_capacity, frames_in, frames_long, frame_places, frame_votes, with_frame, bytes_after}
+use Rattle.posts.specs.declared.fault.Fault.{Fault}
+use Rattle.posts.specs.declared.fault.Layer.{Layer}
+use Rattle.posts.proofs.Calls.{fetched_is}
+use Rattle.posts.proofs.Holding.{held_put}
+use Rattle.posts.proofs.Standing.{frames_put}
+use Rattle.votes.specs.Frames.{frame, frame_size, stands_for}
+use Rattle.votes.specs.Votes.{numbers_of}
+use Rattle.values.specs.declared.value.Value.{Ghosts}
+use Rattle.votes.specs.declared.vote.Vote.{Vote}
+
+module _ {V : Type 0} (layer : Layer) (votes : List (Vote V)) (place : ℕ) where
+  pub fetched_there : (v : Vote V) → slice_get votes place ≡ Some v → Ok v ≡ fetched layer votes place
+  fetched_there v there = fetched_is layer votes place (Some v) (record { layer = layer; place = place }) (sym there) refl
+
+  pub fetched_none : length votes ≤ place → Err (record { layer = layer; place = place }) ≡ fetched layer votes place
+  fetched_none past = fetched_is layer votes place None (record { layer = layer; place = place }) (sym (slice_get_past votes place past)) refl
+
+  pub numbers_alike : (r : Result (Vote V) Fault) → r ≡ fetched layer votes place → result_map_both numbers_of (λ fault. fault) r ≡ fetched_numbers layer votes place
+  unfolding fetched_numbers
+  numbers_alike r e = ap (result_map_both numbers_of (λ fault. fault)) e
+
+-- a table whose next record was written
+pub table_votes_written : {V : Type 0} (count : ℕ) (table : List (Vote V)) (n : ℕ) (v : Vote V) (after : List (Vote V)) → n ≡ length (table_votes count table) → n < table_capacity table → after ≡ set table n v → table_votes (n + 1) after ≡ after_send (table_capacity table) (table_votes count table) v
+table_votes_written count table n v after counted room wrote = held_put count (length table) table refl n v after counted room wrote
+
+-- bytes whose next frame was written
+pub frame_votes_written : {V : Type 0} (G : Ghosts V) (count : ℕ) (bytes : List ℕ) (n : ℕ) (v : Vote V) (new : List ℕ) → n ≡ length (frame_votes G count bytes) → n < frame_capacity G bytes → length new ≡ frame_size G → stands_for G new ≡ v → frame_votes G (n + 1) (with_frame G n bytes new) ≡ after_send (frame_capacity G bytes) (frame_votes G count bytes) v
+frame_votes_written G count bytes n v new counted room wide back =
+    held_put count (frame_places G bytes) (frames_in G bytes) (frames_long G bytes) n v (frames_in G (with_frame G n bytes new)) counted room (frames_put G n bytes new v (omega (arith, room)) wide back)
+
+pub bytes_written : {V : Type 0} (G : Ghosts V) (count : ℕ) (bytes : List ℕ) (n : ℕ) (v : Vote V) → n ≡ length (frame_votes G count bytes) → n < frame_capacity G bytes → with_frame G n bytes (frame G v) ≡ bytes_after G count bytes v
+unfolding bytes_after
+bytes_written G count bytes n v counted room =
+    ap (λ k. with_frame G k bytes (frame G v)) counted ∙ sym (cond-true _ _ _ (lt-ltb (length (frame_votes G count bytes)) (frame_capacity G bytes) (omega (arith, counted, room))))
