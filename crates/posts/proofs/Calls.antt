@@ -1,8 +1,6 @@
 -- What the calls of a post answer, by whether there is room and whether there is a vote. Assumes nothing.
-use Rattle.std.proofs.Common.{◌≡◌, ℕ, ◌+◌, ◌<◌, ◌≤◌, List, [], ◌∷◌, ◌++◌, length, drop, ⊎_elim, Some, None, Ok, Err, Option, Result, sym, refl, ap, ap₂, ◌∙◌, arith}
+use Rattle.std.proofs.Common.{◌≡◌, ℕ, ◌<◌, ◌≤◌, List, [], ◌∷◌, ◌++◌, length, Some, None, Ok, Err, Option, Result, sym, refl, ap, ap₂, ◌∙◌}
 use Rattle.std.proofs.lemmas.Bool.{cond-true, cond-false, lt-ltb, le-ltb}
-use Rattle.std.proofs.lemmas.List.{drop_all, drop_more}
-use Rattle.std.proofs.lemmas.Option.{get_or_from_slice_get, slice_get_cases}
 use Rattle.std.specs.Option.{ok_or, option_map}
 use Rattle.std.specs.Result.{result_map_both}
 use Rattle.std.specs.List.{slice_get}
@@ -34,18 +32,6 @@ module _ {V : Type 0} (layer : Layer) (votes : List (Vote V)) where
   pub fetched_numbers_is : (place : ℕ) (o : Option Numbers) (fault : Fault) → o ≡ option_map numbers_of (slice_get votes place) → fault ≡ record { layer = layer; place = place } → ok_or o fault ≡ fetched_numbers layer votes place
   unfolding fetched fetched_numbers
   fetched_numbers_is place o fault there e = ap₂ ok_or there e ∙ ok_or_map numbers_of (slice_get votes place) _
-
-  -- where a vote is fetched, it is the first of what stands from the place on, and where the place is refused, nothing does
-  pub fetched_first : (place : ℕ) (v : Vote V) → Ok v ≡ fetched layer votes place → (place < length votes) × (drop place votes ≡ v ∷ drop (place + 1) votes)
-  unfolding fetched
-  fetched_first place v e =
-      ⊎_elim (λ p. let same : v ≡ p.0 = cc in (p.1, drop_more votes place v p.1 ∙ ap (λ w. w ∷ drop (place + 1) votes) (get_or_from_slice_get votes place v v (p.2 ∙ ap Some (sym same)))))
-      (λ p. let z : ◌≡◌ {A = ℕ} 0 1 = cc in absurd (omega arith)) (slice_get_cases votes place).1
-
-  pub fetched_none : (place : ℕ) (fault : Fault) → Err fault ≡ fetched layer votes place → drop place votes ≡ []
-  unfolding fetched
-  fetched_none place fault e =
-      ⊎_elim (λ p. let z : ◌≡◌ {A = ℕ} 0 1 = cc in absurd (omega arith)) (λ p. drop_all place votes p.0) (slice_get_cases votes place).1
 
   pub numbers_alike : (place : ℕ) (r : Result (Vote V) Fault) → r ≡ fetched layer votes place → result_map_both numbers_of (λ fault. fault) r ≡ fetched_numbers layer votes place
   unfolding fetched_numbers

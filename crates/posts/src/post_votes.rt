@@ -6,6 +6,7 @@ ghost use Rattle.posts.specs.Posts.{votes_left};
 use crate::post::Post;
 use votes::vote::Vote;
 
+// The votes that stand from a place on.
 #[derive(Drop)]
 pub struct Votes<'a, P> {
     post: &'a P,
@@ -28,7 +29,7 @@ impl<'a, P: Post> Iterator for Votes<'a, P> {
 
     ghost remaining = { item_count (votes_left P.votes) };
 
-    #[tactic(auto, using(crate::proofs::Calls::fetched_first, crate::proofs::Calls::fetched_none))]
+    #[tactic(auto, using(std::proofs::lemmas::Option::slice_get_cases, std::proofs::lemmas::List::drop_more, std::proofs::lemmas::List::drop_all), unfolding(crate::specs::Posts::fetched))]
     fn next(&mut self) -> Option<Vote<P::Value>> {
         let vote = self.post.fetch(self.place).ok()?;
         self.place += 1;
