@@ -1,6 +1,5 @@
 -- The lemmas of the program, by topic.
 pub mod Reading
-pub mod Listing
 pub mod Filling
 pub mod Ignored
 pub mod Telling

@@ -6,6 +6,7 @@ use super::command::Look;
 use posts::fault::Fault;
 use posts::memory::TooSmall;
 use posts::post::Post;
+use posts::post_votes::Votes;
 use std::alloc::{AllocError, Global};
 use text::text_value::TextValue;
 use text::vote_text::show_vote;
@@ -75,6 +76,7 @@ pub(crate) fn fetched_text<V: TextValue>(
 }
 
 // The votes of any post, each on a line of its own.
+#[tactic(auto, unfolding(crate::specs::Answers::votes_answer))]
 pub(crate) fn votes_text<V: TextValue, P: Post<Value = V>>(
     heap: Global,
     post: &P,
@@ -82,10 +84,7 @@ pub(crate) fn votes_text<V: TextValue, P: Post<Value = V>>(
     ensures { IfOk result (λ s. string_bytes s ≡ votes_answer V.Value V.TextValue.own (P.Post.votes post.now)) }
 {
     let mut text = String::from_str(heap, "0")?;
-    for place in 0..post.count() {
-        let Ok(vote) = post.fetch(place) else {
-            return Ok(text);
-        };
+    for (place, vote) in Votes::of(post).enumerate() {
         let words = show_vote(heap, vote)?;
         let line = format!(in heap; "\nvote {place} {words}")?;
         text.push_str(line.as_str())?;

@@ -1,5 +1,5 @@
 -- What the calls of a post answer, by whether there is room and whether there is a vote. Assumes nothing.
-use Rattle.std.proofs.Common.{◌≡◌, ℕ, zero, suc, ◌<◌, ◌≤◌, List, [], ◌∷◌, ◌++◌, length, Some, None, Ok, Err, Option, Result, sym, refl, ap, ap₂, ◌∙◌, arith}
+use Rattle.std.proofs.Common.{◌≡◌, ℕ, ◌<◌, ◌≤◌, List, [], ◌∷◌, ◌++◌, length, Some, None, Ok, Err, Option, Result, sym, refl, ap, ap₂, ◌∙◌}
 use Rattle.std.proofs.lemmas.Bool.{cond-true, cond-false, lt-ltb, le-ltb}
 use Rattle.std.specs.Option.{ok_or, option_map}
 use Rattle.std.specs.Result.{result_map_both}
@@ -10,19 +10,6 @@ use Rattle.posts.specs.declared.fault.Layer.{Layer}
 use Rattle.votes.specs.Votes.{numbers_of}
 use Rattle.votes.specs.declared.numbers.Numbers.{Numbers}
 use Rattle.votes.specs.declared.vote.Vote.{Vote}
-
-ok_some : {X E : Type 0} (o : Option X) (e : E) (x : X) → Ok x ≡ ok_or o e → o ≡ Some x
-ok_some None e x h = let z : ◌≡◌ {A = ℕ} 0 1 = cc in absurd (omega arith)
-ok_some (Some y) e x h = cc
-
-err_none : {X E : Type 0} (o : Option X) (e f : E) → Err f ≡ ok_or o e → o ≡ None
-err_none None e f h = refl
-err_none (Some y) e f h = let z : ◌≡◌ {A = ℕ} 0 1 = cc in absurd (omega arith)
-
-nth_there : {X : Type 0} (xs : List X) (k : ℕ) → k < length xs → slice_get xs k ≡ None → ⊥
-nth_there [] k h e = omega arith
-nth_there (x ∷ xs) zero h e = let z : ◌≡◌ {A = ℕ} 0 1 = cc in omega arith
-nth_there (x ∷ xs) (suc k) h e = nth_there xs k (omega arith) e
 
 ok_or_map : {X Y E : Type 0} (f : X → Y) (o : Option X) (e : E) → ok_or (option_map f o) e ≡ result_map_both f (λ fault. fault) (ok_or o e)
 ok_or_map f None e = refl
@@ -45,16 +32,6 @@ module _ {V : Type 0} (layer : Layer) (votes : List (Vote V)) where
   pub fetched_numbers_is : (place : ℕ) (o : Option Numbers) (fault : Fault) → o ≡ option_map numbers_of (slice_get votes place) → fault ≡ record { layer = layer; place = place } → ok_or o fault ≡ fetched_numbers layer votes place
   unfolding fetched fetched_numbers
   fetched_numbers_is place o fault there e = ap₂ ok_or there e ∙ ok_or_map numbers_of (slice_get votes place) _
-
-  -- a vote that was fetched stands at its place
-  pub fetched_vote : (place : ℕ) (v : Vote V) → Ok v ≡ fetched layer votes place → slice_get votes place ≡ Some v
-  unfolding fetched
-  fetched_vote place v e = ok_some (slice_get votes place) _ v e
-
-  -- a place below the count is not refused
-  pub fetched_refused : (place : ℕ) (fault : Fault) → place < length votes → Err fault ≡ fetched layer votes place → ⊥
-  unfolding fetched
-  fetched_refused place fault less e = nth_there votes place less (err_none (slice_get votes place) _ fault e)
 
   pub numbers_alike : (place : ℕ) (r : Result (Vote V) Fault) → r ≡ fetched layer votes place → result_map_both numbers_of (λ fault. fault) r ≡ fetched_numbers layer votes place
   unfolding fetched_numbers

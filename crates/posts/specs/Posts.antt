@@ -1,10 +1,11 @@
 -- What the calls of a post answer, by its list of votes and its capacity. Assumes nothing.
-use Rattle.std.specs.Prelude.{ℕ, Bool, cond, List, [], ◌∷◌, ◌++◌, length, Ok, Err, Result, nat_lt}
+use Rattle.std.specs.Prelude.{ℕ, Bool, cond, List, [], ◌∷◌, ◌++◌, length, drop, Ok, Err, Result, nat_lt}
 use Rattle.std.specs.Option.{ok_or}
 use Rattle.std.specs.Result.{result_map_both}
 use Rattle.std.specs.List.{slice_get}
 use Rattle.posts.specs.declared.fault.Fault.{Fault}
 use Rattle.posts.specs.declared.fault.Layer.{Layer}
+use Rattle.posts.specs.declared.post_votes.Votes.{Votes}
 use Rattle.votes.specs.Votes.{numbers_of}
 use Rattle.votes.specs.declared.numbers.Numbers.{Numbers}
 use Rattle.votes.specs.declared.vote.Vote.{Vote}
@@ -33,3 +34,7 @@ module _ {V : Type 0} where
   -- the numbers of the vote that fetch answers, refused alike
   unfoldable pub fetched_numbers : Layer → List (Vote V) → ℕ → Result Numbers Fault
   fetched_numbers layer votes place = result_map_both numbers_of (λ fault. fault) (fetched layer votes place)
+
+  -- the votes that an iterator over a post's votes has still to give
+  abbrev pub votes_left : {P : Type 0} → (P → List (Vote V)) → Votes P → List (Vote V)
+  votes_left votes s = drop s.place (votes s.post.now)

@@ -6,4 +6,5 @@ pub mod frames;
 pub mod memory;
 pub mod memory_post;
 pub mod post;
+pub mod post_votes;
 pub mod table;
