@@ -16,7 +16,7 @@ use words::hexadecimal::show_hex;
 
 // A vote's frame in hexadecimal.
 pub(crate) fn frame_text<V: TextValue>(heap: Global, vote: Vote<V>) -> Result<String, AllocError>
-    ensures { IfOk result (λ s. string_bytes s ≡ frame_answer V.Value vote) }
+    ensures { IfOk result (λ s. string_bytes s ≡ frame_answer V.Value.own vote) }
 {
     let mut frame = vec![in heap; 0; frame_size::<V>()]?;
     let _ = write_frame(vote, frame.as_mut_slice());
@@ -25,7 +25,7 @@ pub(crate) fn frame_text<V: TextValue>(heap: Global, vote: Vote<V>) -> Result<St
 
 // The vote in a frame, or that the frame is unreadable.
 pub(crate) fn read_text<V: TextValue>(heap: Global, bytes: &[u8]) -> Result<String, AllocError>
-    ensures { IfOk result (λ s. string_bytes s ≡ read_answer V.Value V.TextValue.own bytes.now) }
+    ensures { IfOk result (λ s. string_bytes s ≡ read_answer V.Value.own V.TextValue.own bytes.now) }
 {
     let vote = read_frame::<V>(bytes);
     if is_readable::<V>(bytes) {
@@ -64,7 +64,7 @@ pub(crate) fn fetched_text<V: TextValue>(
     heap: Global,
     fetched: Result<Vote<V>, Fault>,
 ) -> Result<String, AllocError>
-    ensures { IfOk result (λ s. string_bytes s ≡ fetched_answer V.Value V.TextValue.own fetched) }
+    ensures { IfOk result (λ s. string_bytes s ≡ fetched_answer V.Value.own V.TextValue.own fetched) }
 {
     match fetched {
         Ok(vote) => {
@@ -81,7 +81,7 @@ pub(crate) fn votes_text<V: TextValue, P: Post<Value = V>>(
     heap: Global,
     post: &P,
 ) -> Result<String, AllocError>
-    ensures { IfOk result (λ s. string_bytes s ≡ votes_answer V.Value V.TextValue.own (P.Post.votes post.now)) }
+    ensures { IfOk result (λ s. string_bytes s ≡ votes_answer V.Value.own V.TextValue.own (P.Post.votes post.now)) }
 {
     let mut text = String::from_str(heap, "0")?;
     for (place, vote) in Votes::of(post).enumerate() {
@@ -98,7 +98,7 @@ pub(crate) fn look_text<V: TextValue, P: Post<Value = V>>(
     post: &P,
     look: Look,
 ) -> Result<String, AllocError>
-    ensures { IfOk result (λ s. string_bytes s ≡ look_answer V.Value V.TextValue.own P.Post.layer (P.Post.votes post.now) look) }
+    ensures { IfOk result (λ s. string_bytes s ≡ look_answer V.Value.own V.TextValue.own P.Post.layer (P.Post.votes post.now) look) }
 {
     match look {
         Look::Fetch(place) => fetched_text(heap, post.fetch(place)),

@@ -32,7 +32,7 @@ impl<V: TextValue> Desk<V> {
     }
 
     fn lay(&mut self, heap: Global, memory: Memory<V>, count: usize) -> Result<String, Refusal>
-        ensures { IfRead result (λ answer. Replied (lay V.Value (held_in memory) count (view self.old)) answer (view self.old) (view self.new)) }
+        ensures { IfRead result (λ answer. Replied (lay V.Value.own (held_in memory) count (view self.old)) answer (view self.old) (view self.new)) }
     {
         if self.memory.is_some() {
             return Err(Refusal::Malformed);
@@ -44,7 +44,7 @@ impl<V: TextValue> Desk<V> {
     }
 
     fn send(&mut self, heap: Global, vote: Vote<V>) -> Result<String, Refusal>
-        ensures { IfRead result (λ answer. Replied (send_reply V.Value vote (view self.old)) answer (view self.old) (view self.new)) }
+        ensures { IfRead result (λ answer. Replied (send_reply V.Value.own vote (view self.old)) answer (view self.old) (view self.new)) }
     {
         let Some(memory) = &mut self.memory else {
             return Err(Refusal::Malformed);
@@ -55,7 +55,7 @@ impl<V: TextValue> Desk<V> {
     }
 
     fn look(&mut self, heap: Global, look: Look) -> Result<String, Refusal>
-        ensures { IfRead result (λ answer. Replied (look_reply V.Value V.TextValue.own look (view self.old)) answer (view self.old) (view self.new)) }
+        ensures { IfRead result (λ answer. Replied (look_reply V.Value.own V.TextValue.own look (view self.old)) answer (view self.old) (view self.new)) }
     {
         let Some(memory) = &mut self.memory else {
             return Err(Refusal::Malformed);
@@ -66,7 +66,7 @@ impl<V: TextValue> Desk<V> {
 
     // `fill` and `poke` differ in one call: a closure for that would need a contract as long as both.
     fn fill(&mut self, heap: Global, place: usize, vote: Vote<V>) -> Result<String, Refusal>
-        ensures { IfRead result (λ answer. Replied (prepare (filled V.Value place vote) (view self.old)) answer (view self.old) (view self.new)) }
+        ensures { IfRead result (λ answer. Replied (prepare (filled V.Value.own place vote) (view self.old)) answer (view self.old) (view self.new)) }
     {
         let Some(memory) = &mut self.memory else {
             return Err(Refusal::Malformed);
@@ -93,7 +93,7 @@ impl<V: TextValue> Desk<V> {
 
     // The answer to a command, which is refused where it is not allowed.
     pub(crate) fn carry_out(&mut self, heap: Global, command: Command<V>) -> Result<String, Refusal>
-        ensures { IfRead result (λ answer. Replied (reply V.Value V.TextValue.own command (view self.old)) answer (view self.old) (view self.new)) }
+        ensures { IfRead result (λ answer. Replied (reply V.Value.own V.TextValue.own command (view self.old)) answer (view self.old) (view self.new)) }
     {
         match command {
             Command::Frame(vote) => Ok(frame_text(heap, vote)?),

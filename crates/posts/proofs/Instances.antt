@@ -1,8 +1,9 @@
--- What the lemmas of a post over memory say of a table and of frames. Assumes nothing.
-use Rattle.std.proofs.Common.{◌≡◌, ℕ, ◌+◌, ◌<◌, ◌≤◌, List, length, set, Some, None, Ok, Err, Result, sym, refl, ap, ◌∙◌, arith}
+-- What follows of any post, and what the lemmas of a post over memory say of a table and of frames. Assumes nothing.
+use Rattle.std.proofs.Common.{◌≡◌, ℕ, ◌+◌, ◌<◌, ◌≤◌, List, length, set, Some, None, Ok, Err, Option, Result, sym, refl, ap, ◌∙◌, arith}
 use Rattle.std.proofs.lemmas.Option.{slice_get_past}
 use Rattle.std.proofs.lemmas.Bool.{cond-true, lt-ltb}
 use Rattle.std.specs.List.{slice_get}
+use Rattle.std.specs.Option.{ok_or}
 use Rattle.std.specs.Result.{result_map_both}
 use Rattle.posts.specs.Posts.{after_send, fetched, fetched_numbers}
 use Rattle.posts.specs.Memories.{table_capacity, table_votes, frame_capacity, frames_in, frames_long, frame_places, frame_votes, with_frame, bytes_after}
@@ -16,7 +17,30 @@ use Rattle.votes.specs.Votes.{numbers_of}
 use Rattle.values.specs.declared.value.Value.{Ghosts}
 use Rattle.votes.specs.declared.vote.Vote.{Vote}
 
+ok_some : {X E : Type 0} (o : Option X) (e : E) (x : X) → Ok x ≡ ok_or o e → o ≡ Some x
+ok_some None e x h = cc h
+ok_some (Some y) e x h = cc
+
+err_none : {X E : Type 0} (o : Option X) (e f : E) → Err f ≡ ok_or o e → o ≡ None
+err_none None e f h = refl
+err_none (Some y) e f h = cc h
+
+some_within : {X : Type 0} (xs : List X) (k : ℕ) → k < length xs → slice_get xs k ≡ None → ⊥
+some_within [] k h e = omega arith
+some_within (x ∷ xs) zero h e = cc e
+some_within (x ∷ xs) (suc k) h e = some_within xs k (omega arith) e
+
 module _ {V : Type 0} (layer : Layer) (votes : List (Vote V)) (place : ℕ) where
+  -- a vote that was fetched stands at its place
+  pub fetched_vote : (v : Vote V) → Ok v ≡ fetched layer votes place → slice_get votes place ≡ Some v
+  unfolding fetched
+  fetched_vote v e = ok_some (slice_get votes place) _ v e
+
+  -- a place below the count is not refused
+  pub fetched_refused : (fault : Fault) → place < length votes → Err fault ≡ fetched layer votes place → ⊥
+  unfolding fetched
+  fetched_refused fault less e = some_within votes place less (err_none (slice_get votes place) _ fault e)
+
   pub fetched_there : (v : Vote V) → slice_get votes place ≡ Some v → Ok v ≡ fetched layer votes place
   fetched_there v there = fetched_is layer votes place (Some v) (record { layer = layer; place = place }) (sym there) refl
 

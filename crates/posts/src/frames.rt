@@ -18,8 +18,8 @@ pub struct Frames<V> {
 
 // The bytes of the frame at a place.
 fn frame_at<V: Value>(bytes: &[u8], place: usize) -> &[u8]
-    requires { place < frame_places V.Value bytes.now }
-    ensures { result.now ≡ frame_at V.Value place bytes.now }
+    requires { place < frame_places V.Value.own bytes.now }
+    ensures { result.now ≡ frame_at V.Value.own place bytes.now }
 {
     let size = frame_size::<V>();
     let from = place * size;
@@ -33,13 +33,13 @@ impl<V: Value> Layout for Frames<V> {
 
     ghost layer = { frame_layer };
 
-    ghost votes = { λ bytes. frames_in V.Value bytes };
+    ghost votes = { λ bytes. frames_in V.Value.own bytes };
 
-    ghost places = { λ bytes. frame_places V.Value bytes };
+    ghost places = { λ bytes. frame_places V.Value.own bytes };
 
-    ghost long = { λ bytes. frames_long V.Value bytes };
+    ghost long = { λ bytes. frames_long V.Value.own bytes };
 
-    ghost put = { λ place vote bytes. with_frame V.Value place bytes (frame V.Value vote) };
+    ghost put = { λ place vote bytes. with_frame V.Value.own place bytes (frame V.Value.own vote) };
 
     fn layer() -> Layer
         ensures { result ≡ frame_layer }

@@ -1,3 +1,2 @@
 -- The lemmas of this crate, by topic.
 pub mod Arrays
-pub mod Same

@@ -1,5 +1,6 @@
 -- A fingerprint's bytes write it and are read back as it. Assumes nothing.
-use Rattle.std.specs.Prelude.{◌≡◌, ℕ, zero, suc, ◌+◌, ◌*◌, ◌%◌, ◌^◌, ◌<◌, ◌≤◌, List, [], ◌∷◌, ◌++◌, length, take, drop, slice_index, refl}
+use Rattle.std.specs.Prelude.{◌==◌, ◌≡◌, ℕ, zero, suc, ◌+◌, ◌*◌, ◌%◌, ◌^◌, ◌<◌, ◌≤◌, List, [], ◌∷◌, ◌++◌, length, take, drop, slice_index, refl}
+use Rattle.std.specs.Str.{bytes_eq}
 use Rattle.std.proofs.Common.{sym, ap, ap₂, ◌∙◌, mod-eq_of_lt, add-suc, arith, lit≤}
 use mathlib.Core.HLevel.{is_prop→PathP}
 use Rattle.std.proofs.Math.Bridge.{le_prop}
@@ -7,11 +8,15 @@ use std.HLevel.{Π_prop}
 use base.Stored.{Coded-set, coded_ℕ}
 use Rattle.std.proofs.ByRecursion.{All-append, All-drop}
 use Rattle.std.proofs.lemmas.List.{length-append, length-drop, take-append-drop, get_or-drop}
+use Rattle.std.proofs.lemmas.Bool.Decides.{Decides-eqb}
+use Rattle.std.proofs.lemmas.Slice.Eq.{slice_eq-Decides}
 use Rattle.std.specs.List.{flat_map}
+use Rattle.std.specs.Cmp.Lexicographic.{pointwise}
 use Rattle.values.specs.Bytes.{Octets, big, field}
 use Rattle.values.specs.Fingerprints.{fingerprint_bytes, fingerprint_parsed, words_in}
 use Rattle.values.specs.declared.fingerprint.Fingerprint.{Fingerprint}
 use Rattle.values.specs.BigEndian.{number-big, big-field, field_lt, length-big, octets-big}
+use Rattle.values.specs.Same.{same_by_bytes}
 
 -- a fingerprint is its numbers
 pub fingerprint_from_words : (f g : Fingerprint) → f.words ≡ g.words → f ≡ g
@@ -67,6 +72,12 @@ words_from_fields bs long small =
     let d3 = field-drop 8 0 8 (drop 8 (drop 8 bs)) ∙ field-drop 8 8 8 (drop 8 bs) ∙ field-drop 8 16 8 bs in
     rw (d1, d2, d3, at 0 (lit≤ tt), at 8 (lit≤ tt), at 16 (lit≤ tt), at 24 (lit≤ tt)) refl
 
-pub words_from_bytes : (f g : Fingerprint) → fingerprint_bytes f ≡ fingerprint_bytes g → f.words ≡ g.words
+words_from_bytes : (f g : Fingerprint) → fingerprint_bytes f ≡ fingerprint_bytes g → f.words ≡ g.words
 words_from_bytes f g e =
     ap (λ (h : Fingerprint). h.words) (sym (fingerprint_reading f) ∙ ap fingerprint_parsed e ∙ fingerprint_reading g)
+
+-- two fingerprints are equal where their bytes are
+pub fingerprint_equal : (f g : Fingerprint) → pointwise ◌==◌ f.words g.words ≡ bytes_eq (fingerprint_bytes f) (fingerprint_bytes g)
+fingerprint_equal f g =
+    let words = pointwise ◌==◌ f.words g.words in
+    same_by_bytes (flat_map (big 8)) words (slice_eq-Decides Decides-eqb f.words g.words words refl) (words_from_bytes f g)

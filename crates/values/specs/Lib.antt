@@ -3,5 +3,6 @@ pub mod Bytes
 pub mod Rates
 pub mod Fingerprints
 pub mod BigEndian
+pub mod Same
 pub mod RatesLemmas
 pub mod FingerprintsLemmas

@@ -2,7 +2,7 @@
 ghost use Rattle.std.specs.Prelude.{◌*◌};
 ghost use Rattle.std.proofs.Common.{ap, ◌∙◌, lit≤};
 ghost use Rattle.values.specs.Fingerprints.{fingerprint_bytes, fingerprint_parsed, fingerprint_blank};
-ghost use Rattle.values.specs.FingerprintsLemmas.{length_words, octets_words, fingerprint_reading, fingerprint_writing};
+ghost use Rattle.values.specs.FingerprintsLemmas.{length_words, octets_words, fingerprint_reading, fingerprint_writing, fingerprint_equal};
 
 use crate::fingerprint::Fingerprint;
 use crate::value::Value;
@@ -24,6 +24,8 @@ impl Value for Fingerprint {
 
     ghost octets = { λ f. octets_words f.words };
 
+    ghost equal = { fingerprint_equal };
+
     ghost reading = { fingerprint_reading };
 
     ghost writing = { fingerprint_writing };
@@ -43,10 +45,6 @@ impl Value for Fingerprint {
         };
         let words = [*a, *b, *c, *d].map(u64::from_be_bytes);
         Some(Fingerprint { words })
-    }
-
-    fn same(&self, other: &Fingerprint) -> bool {
-        self == other
     }
 
     fn blank() -> Fingerprint {

@@ -17,14 +17,14 @@ pub const HEADER: usize = 13;
 
 // How many bytes a frame has.
 pub fn frame_size<V: Value>() -> usize
-    ensures { result ≡ frame_size V.Value }
+    ensures { result ≡ frame_size V.Value.own }
 {
     HEADER + V::width()
 }
 
 // What a frame's length says: how many bytes come after it.
 fn frame_length<V: Value>() -> u16
-    ensures { result ≡ frame_length V.Value }
+    ensures { result ≡ frame_length V.Value.own }
 {
     // No kind of value is wider than 32 bytes, so the cast keeps the number.
     (HEADER - 2 + V::width()) as u16
@@ -46,7 +46,7 @@ impl Error for WrongSize {}
 
 // The numbers in a frame's header, and the bytes of its value, if size, length and version are right.
 fn split<V: Value>(bytes: &[u8]) -> Option<(Numbers, &[u8])>
-    ensures { MatchOption result (readable V.Value bytes.now ≡ false) (λ p. (readable V.Value bytes.now ≡ true) × (p.0 ≡ numbers_of (fields V.Value bytes.now)) × (p.1.now ≡ drop 13 bytes.now)) }
+    ensures { MatchOption result (readable V.Value.own bytes.now ≡ false) (λ p. (readable V.Value.own bytes.now ≡ true) × (p.0 ≡ numbers_of (fields V.Value.own bytes.now)) × (p.1.now ≡ drop 13 bytes.now)) }
 {
     let (header, value) = bytes.split_first_chunk::<HEADER>()?;
     let [
@@ -81,7 +81,7 @@ fn split<V: Value>(bytes: &[u8]) -> Option<(Numbers, &[u8])>
 
 // The vote in a frame, if the frame is readable.
 fn parse<V: Value>(bytes: &[u8]) -> Option<Vote<V>>
-    ensures { result ≡ (if readable V.Value bytes.now then Some (fields V.Value bytes.now) else None) }
+    ensures { result ≡ (if readable V.Value.own bytes.now then Some (fields V.Value.own bytes.now) else None) }
 {
     let (numbers, value) = split::<V>(bytes)?;
     let value = V::read(value)?;
@@ -90,7 +90,7 @@ fn parse<V: Value>(bytes: &[u8]) -> Option<Vote<V>>
 
 // What stands before the value.
 fn header<V: Value>(vote: Vote<V>) -> [u8; HEADER]
-    ensures { result ≡ header_of V.Value vote }
+    ensures { result ≡ header_of V.Value.own vote }
 {
     let [l1, l0] = frame_length::<V>().to_be_bytes();
     let n = vote.numbers;
@@ -103,9 +103,9 @@ fn header<V: Value>(vote: Vote<V>) -> [u8; HEADER]
 
 // Writes the vote's frame over the whole of `out`, or leaves it as it was where that is not as long as a frame.
 pub fn write_frame<V: Value>(vote: Vote<V>, out: &mut [u8]) -> Result<(), WrongSize>
-    ensures test { is_ok result ≡ (length out.old == frame_size V.Value) }
-    ensures after { out.new ≡ (if is_ok result then frame V.Value vote else out.old) }
-    ensures reads_back { is_ok result ≡ true → ReadsBack V.Value vote out.new }
+    ensures test { is_ok result ≡ (length out.old == frame_size V.Value.own) }
+    ensures after { out.new ≡ (if is_ok result then frame V.Value.own vote else out.old) }
+    ensures reads_back { is_ok result ≡ true → ReadsBack V.Value.own vote out.new }
 {
     if out.len() != frame_size::<V>() {
         return Err(WrongSize);
@@ -116,16 +116,16 @@ pub fn write_frame<V: Value>(vote: Vote<V>, out: &mut [u8]) -> Result<(), WrongS
 }
 
 pub fn is_readable<V: Value>(bytes: &[u8]) -> bool
-    ensures { result ≡ readable V.Value bytes.now }
+    ensures { result ≡ readable V.Value.own bytes.now }
 {
     parse::<V>(bytes).is_some()
 }
 
 // The vote that a frame stands for.
 pub fn read_frame<V: Value>(bytes: &[u8]) -> Vote<V>
-    ensures value { result ≡ stands_for V.Value bytes.now }
-    ensures writes_back { WritesBack V.Value bytes.now result }
-    ensures unreadable { UnreadableIsEmpty V.Value bytes.now result }
+    ensures value { result ≡ stands_for V.Value.own bytes.now }
+    ensures writes_back { WritesBack V.Value.own bytes.now result }
+    ensures unreadable { UnreadableIsEmpty V.Value.own bytes.now result }
 {
     // A closure, since the borrow checker does not take the path `Vote::empty` here yet.
     parse(bytes).unwrap_or_else(|| Vote::empty())
@@ -133,7 +133,7 @@ pub fn read_frame<V: Value>(bytes: &[u8]) -> Vote<V>
 
 // The numbers of the vote that a frame stands for, from its header alone.
 pub fn read_numbers<V: Value>(bytes: &[u8]) -> Numbers
-    ensures { result ≡ numbers_of (stands_for V.Value bytes.now) }
+    ensures { result ≡ numbers_of (stands_for V.Value.own bytes.now) }
 {
     split::<V>(bytes)
         .map(|(numbers, _)| numbers)
