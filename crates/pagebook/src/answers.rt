@@ -100,6 +100,7 @@ pub(crate) fn look_text<V: TextValue, P: Post<Value = V>>(
 ) -> Result<String, AllocError>
     ensures { IfOk result (λ s. string_bytes s ≡ look_answer V.Value.own V.TextValue.own P.Post.layer (P.Post.votes post.now) look) }
 {
+    // Three looks, of three results: closures for them would give one.
     match look {
         Look::Fetch(place) => fetched_text(heap, post.fetch(place)),
         Look::Count => {

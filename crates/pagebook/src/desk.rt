@@ -95,6 +95,7 @@ impl<V: TextValue> Desk<V> {
     pub(crate) fn carry_out(&mut self, heap: Global, command: Command<V>) -> Result<String, Refusal>
         ensures { IfRead result (λ answer. Replied (reply V.Value.own V.TextValue.own command (view self.old)) answer (view self.old) (view self.new)) }
     {
+        // The commands are closed, so a match names each step, and the contract each command.
         match command {
             Command::Frame(vote) => Ok(frame_text(heap, vote)?),
             Command::Read(bytes) => Ok(read_text::<V>(heap, bytes.as_slice())?),

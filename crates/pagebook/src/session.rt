@@ -98,6 +98,7 @@ impl Session {
         ensures settles { MatchResult result (λ s. Prints line.now (string_bytes s) × Settles (stage_of self.old) line.now (stage_of self.new)) (λ _. stage_of self.new ≡ stage_of self.old) }
         ensures replies { IfRead result (λ text. Speaks (session_view self.old) line.now (spoken text) (session_view self.new)) }
     {
+        // A desk of each kind of value is a type of its own, so a match chooses it once.
         match self {
             Session::Rates(desk) => answer(heap, desk, line),
             Session::Fingerprints(desk) => answer(heap, desk, line),

@@ -23,8 +23,8 @@ fn vote_of<V: Value>(house: u8, value: V) -> Vote<V> {
 
 // Sends a vote of each house from 0 on, so many that the last is refused, and reads them back.
 fn fills_up<V: Value, P: Post<Value = V>>(post: &mut P, value: V, room: u8) -> bool {
-    for house in 0..room {
-        if post.count() != usize::from(house) || post.send(&vote_of(house, value)).is_err() {
+    for (place, house) in (0..room).enumerate() {
+        if post.count() != place || post.send(&vote_of(house, value)).is_err() {
             return false;
         }
     }
@@ -36,8 +36,7 @@ fn fills_up<V: Value, P: Post<Value = V>>(post: &mut P, value: V, room: u8) -> b
 
 // Whether the votes of the houses below `room` are there, and none after them.
 fn holds<V: Value, P: Post<Value = V>>(post: &P, value: V, room: u8) -> bool {
-    for house in 0..room {
-        let place = usize::from(house);
+    for (place, house) in (0..room).enumerate() {
         let (Ok(vote), Ok(numbers)) = (post.fetch(place), post.numbers(place)) else {
             return false;
         };
