@@ -1,12 +1,13 @@
 -- What follows of any post, and what the lemmas of a post over memory say of a table and of frames. Assumes nothing.
-use Rattle.std.proofs.Common.{◌≡◌, ℕ, ◌+◌, ◌<◌, ◌≤◌, List, length, set, Some, None, Ok, Err, Option, Result, sym, refl, ap, ◌∙◌, arith, zero, suc, [], ◌∷◌}
+use Rattle.std.proofs.Common.{◌≡◌, ℕ, ◌+◌, ◌<◌, ◌≤◌, List, length, set, Some, None, Ok, Err, Option, Result, sym, refl, ap, ◌∙◌, arith, zero, suc, [], ◌∷◌, min, Bool, true, false, ltb, take}
 use Rattle.std.proofs.lemmas.Option.{slice_get_past}
-use Rattle.std.proofs.lemmas.Bool.{cond-true, lt-ltb}
+use Rattle.std.proofs.lemmas.Bool.{cond-true, lt-ltb, ltb-true, ltb-false}
+use Rattle.std.proofs.lemmas.List.{take-append-le, take_all}
 use Rattle.std.specs.List.{slice_get}
 use Rattle.std.specs.Option.{ok_or}
 use Rattle.std.specs.Result.{result_map_both}
 use Rattle.posts.specs.Posts.{after_send, fetched, fetched_numbers}
-use Rattle.posts.specs.Memories.{table_capacity, table_votes, frame_capacity, frames_in, frames_long, frame_places, frame_votes, with_frame, bytes_after}
+use Rattle.posts.specs.Memories.{table_capacity, table_votes, frame_capacity, frames_in, frames_long, frame_places, frame_votes, with_frame, bytes_after, cut, held, standing, standing_long}
 use Rattle.posts.specs.declared.fault.Fault.{Fault}
 use Rattle.posts.specs.declared.fault.Layer.{Layer}
 use Rattle.posts.proofs.Calls.{fetched_is}
@@ -64,3 +65,25 @@ pub bytes_written : {V : Type 0} (G : Ghosts V) (count : ℕ) (bytes : List ℕ)
 unfolding bytes_after
 bytes_written G count bytes n v counted room =
     ap (λ k. with_frame G k bytes (frame G v)) counted ∙ sym (cond-true _ _ _ (lt-ltb (length (frame_votes G count bytes)) (frame_capacity G bytes) (omega (arith, counted, room))))
+
+-- the votes of frames by a count are what so many frames stand for
+module _ {V : Type 0} (G : Ghosts V) (bytes : List ℕ) where
+  front_by_test : (k n : ℕ) → k ≤ suc n → (k ≤ n → take k (standing G n bytes) ≡ standing G k bytes) → (b : Bool) → ltb k (suc n) ≡ b → take k (standing G (suc n) bytes) ≡ standing G k bytes
+  front_by_test k n h below true e =
+      let within : k ≤ n = omega (arith, ltb-true k (suc n) e) in
+      take-append-le k (standing G n bytes) _ (omega (arith, within, standing_long G n bytes)) ∙ below within
+  front_by_test k n h below false e =
+      let all : k ≡ suc n = omega (arith, h, ltb-false k (suc n) e) in
+      take_all k (standing G (suc n) bytes) (omega (arith, all, standing_long G (suc n) bytes)) ∙ ap (λ m. standing G m bytes) (sym all)
+
+  front : (k n : ℕ) → k ≤ n → take k (standing G n bytes) ≡ standing G k bytes
+  front k zero h = ap (λ m. take m (standing G zero bytes)) (none k h) ∙ ap (λ m. standing G m bytes) (sym (none k h))
+    where
+      none : (m : ℕ) → m ≤ 0 → m ≡ 0
+      none m e = omega (arith, e)
+  front k (suc n) h = front_by_test k n h (front k n) (ltb k (suc n)) refl
+
+  pub frame_votes_standing : (count : ℕ) → frame_votes G count bytes ≡ standing G (min count (frame_capacity G bytes)) bytes
+  unfolding held
+  frame_votes_standing count =
+      ap (λ k. take (min count (cut k)) (frames_in G bytes)) (frames_long G bytes) ∙ front (min count (frame_capacity G bytes)) (frame_places G bytes) (omega arith)

@@ -72,7 +72,7 @@ words_from_fields bs long small =
     let d3 = field-drop 8 0 8 (drop 8 (drop 8 bs)) ∙ field-drop 8 8 8 (drop 8 bs) ∙ field-drop 8 16 8 bs in
     rw (d1, d2, d3, at 0 (lit≤ tt), at 8 (lit≤ tt), at 16 (lit≤ tt), at 24 (lit≤ tt)) refl
 
-words_from_bytes : (f g : Fingerprint) → fingerprint_bytes f ≡ fingerprint_bytes g → f.words ≡ g.words
+pub words_from_bytes : (f g : Fingerprint) → fingerprint_bytes f ≡ fingerprint_bytes g → f.words ≡ g.words
 words_from_bytes f g e =
     ap (λ (h : Fingerprint). h.words) (sym (fingerprint_reading f) ∙ ap fingerprint_parsed e ∙ fingerprint_reading g)
 

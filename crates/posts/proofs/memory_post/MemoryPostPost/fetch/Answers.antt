@@ -17,5 +17,5 @@ returns g c =
     let there : c.if-place-count.vote ≡ slice_get (held post.count votes) place =
     elim
     c.if-place-count.branch
-    [ then-place-count w ↦ w.vote-is ∙ w.get-vote.ensures ∙ held-nth post.count _ votes long place (omega (arith, w.if-place-count, c.count.ensures)) | else-place-count w ↦ w.vote-is ∙ held_past post.count _ votes long place (omega (arith, w.if-place-count, c.count.ensures)) ] in
+    [ then-place-count w ↦ ◌∙◌ {b = slice_get votes place} (w.vote-is ∙ w.get-vote.ensures) (held-nth post.count _ votes long place (omega (arith, w.if-place-count, c.count.ensures))) | else-place-count w ↦ w.vote-is ∙ held_past post.count _ votes long place (omega (arith, w.if-place-count, c.count.ensures)) ] in
     ◌∙◌ {b = ok_or c.if-place-count.vote c.fault_at.result} c.ok_or.ensures.value (fetched_is _ _ place _ _ there c.fault_at.ensures)
