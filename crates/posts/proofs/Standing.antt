@@ -6,7 +6,7 @@ use Rattle.std.proofs.lemmas.List.{append_assoc, length-append, length-drop, len
 use Rattle.std.proofs.Math.Seq.{set-append_seam}
 use Rattle.std.proofs.lemmas.Option.{slice_get_past}
 use Rattle.std.proofs.lemmas.Slice.{between_is, drop-append-drop}
-use Rattle.std.proofs.lemmas.Bool.{eq-eqb, ltb-true, ltb-false}
+use Rattle.std.proofs.lemmas.Bool.{cond-true, eq-eqb, ltb-true, ltb-false}
 use Rattle.std.specs.List.{slice_get}
 use Rattle.posts.specs.Memories.{frame_at, frame_places, frames_in, frames_long, standing, standing_long, with_frame}
 use Rattle.votes.proofs.Framing.{readable_parts}
@@ -132,14 +132,29 @@ module _ {V : Type 0} (G : Ghosts V) where
     pub frames_put : frames_in G after ≡ set (frames_in G bytes) n v
     frames_put = ap (λ k. standing G (k / frame_size G) after) after_long ∙ standing_put (frame_places G bytes) room
 
+-- `new` is the frame of a vote, and `after` is the bytes with it as frame n
+pub record Written {V : Type 0} (G : Ghosts V) (n : ℕ) (bytes : List ℕ) (v : Vote V) (new after : List ℕ) : Type 0 where
+  pub is_frame : new ≡ frame G v
+  pub wide : length new ≡ frame_size G
+  pub back : stands_for G new ≡ v
+  pub put : after ≡ with_frame G n bytes new
+
 -- the part for frame n was handed to the frame writer
-pub part_put : {V : Type 0} (G : Ghosts V) (n : ℕ) (bytes : List ℕ) (v : Vote V) (s : ℕ) (done : Bool) (new : List ℕ) → s ≡ frame_size G → n < frame_places G bytes → let part = take ((n * s + s) - n * s) (drop (n * s) bytes) in done ≡ eqb (length part) (frame_size G) → new ≡ cond done (frame G v) part → (done ≡ true → ReadsBack G v new) → frames_in G (put_mid (n * s) ((n * s + s) - n * s) bytes new) ≡ set (frames_in G bytes) n v
-part_put G n bytes v s done new size room tested after reads_back =
-    let inside : n * s + s ≤ length bytes = subst (λ m. n * m + m ≤ length bytes) (sym size) (frame_inside G bytes n room) in
+pub part_written : {V : Type 0} (G : Ghosts V) (n : ℕ) (bytes : List ℕ) (v : Vote V) (s : ℕ) (done : Bool) (new : List ℕ) → s ≡ frame_size G → n * s + s ≤ length bytes → let part = take ((n * s + s) - n * s) (drop (n * s) bytes) in done ≡ eqb (length part) (frame_size G) → new ≡ cond done (frame G v) part → (done ≡ true → ReadsBack G v new) → Written G n bytes v new (put_mid (n * s) ((n * s + s) - n * s) bytes new)
+part_written G n bytes v s done new size inside tested after reads_back =
     let part = take ((n * s + s) - n * s) (drop (n * s) bytes) in
     let long : length part ≡ s = length-take ((n * s + s) - n * s) (drop (n * s) bytes) ∙ omega (arith, inside, length-drop (n * s) bytes) in
     let ok : done ≡ true = tested ∙ eq-eqb _ _ (long ∙ size) in
     let past : drop ((n * s + s) - n * s) (drop (n * s) bytes) ≡ drop (n * s + s) bytes = Post-is (n * s) (n * s + s) bytes (omega arith) in
-    let put : put_mid (n * s) ((n * s + s) - n * s) bytes new ≡ with_frame G n bytes new =
-    ap (λ rest. take (n * s) bytes ++ (new ++ rest)) past ∙ ap (λ k. take (n * k) bytes ++ (new ++ drop (n * k + k) bytes)) size in
-    ap (frames_in G) put ∙ frames_put G n bytes new v room (readable_parts G new (reads_back ok).0).long (reads_back ok).1
+    record {
+      is_frame = after ∙ cond-true _ _ _ ok;
+      wide = (readable_parts G new (reads_back ok).0).long;
+      back = (reads_back ok).1;
+      put = ap (λ rest. take (n * s) bytes ++ (new ++ rest)) past ∙ ap (λ k. take (n * k) bytes ++ (new ++ drop (n * k + k) bytes)) size;
+    }
+
+pub part_put : {V : Type 0} (G : Ghosts V) (n : ℕ) (bytes : List ℕ) (v : Vote V) (s : ℕ) (done : Bool) (new : List ℕ) → s ≡ frame_size G → n < frame_places G bytes → let part = take ((n * s + s) - n * s) (drop (n * s) bytes) in done ≡ eqb (length part) (frame_size G) → new ≡ cond done (frame G v) part → (done ≡ true → ReadsBack G v new) → frames_in G (put_mid (n * s) ((n * s + s) - n * s) bytes new) ≡ set (frames_in G bytes) n v
+part_put G n bytes v s done new size room tested after reads_back =
+    let inside : n * s + s ≤ length bytes = subst (λ m. n * m + m ≤ length bytes) (sym size) (frame_inside G bytes n room) in
+    let wrote = part_written G n bytes v s done new size inside tested after reads_back in
+    ap (frames_in G) wrote.put ∙ frames_put G n bytes new v room wrote.wide wrote.back
