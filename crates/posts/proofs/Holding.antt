@@ -31,9 +31,9 @@ module _ {V : Type 0} (count places : ℕ) (votes : List (Vote V)) (long : lengt
   pub held_past : (place : ℕ) → length (held count votes) ≤ place → None ≡ slice_get (held count votes) place
   held_past place h = sym (slice_get_past (held count votes) place h)
 
-  pub held-nth : (place : ℕ) → place < length (held count votes) → slice_get votes place ≡ slice_get (held count votes) place
+  pub held_nth : (place : ℕ) → place < length (held count votes) → slice_get votes place ≡ slice_get (held count votes) place
   unfolding held
-  held-nth place h = sym (nth-take votes _ place (omega (arith, held_count, long)))
+  held_nth place h = sym (nth-take votes _ place (omega (arith, held_count, long)))
 
   -- a vote that was put after them is the next
   pub held_put : (n : ℕ) (v : Vote V) (after : List (Vote V)) → n ≡ length (held count votes) → n < cut places → after ≡ set votes n v → held (n + 1) after ≡ after_send (cut places) (held count votes) v

@@ -48,10 +48,6 @@ module _ {V : Type 0} (layer : Layer) (votes : List (Vote V)) (place : ℕ) wher
   pub fetched_none : length votes ≤ place → Err (record { layer = layer; place = place }) ≡ fetched layer votes place
   fetched_none past = fetched_is layer votes place None (record { layer = layer; place = place }) (sym (slice_get_past votes place past)) refl
 
-  pub numbers_alike : (r : Result (Vote V) Fault) → r ≡ fetched layer votes place → result_map_both numbers_of (λ fault. fault) r ≡ fetched_numbers layer votes place
-  unfolding fetched_numbers
-  numbers_alike r e = ap (result_map_both numbers_of (λ fault. fault)) e
-
 -- a table whose next record was written
 pub table_votes_written : {V : Type 0} (count : ℕ) (table : List (Vote V)) (n : ℕ) (v : Vote V) (after : List (Vote V)) → n ≡ length (table_votes count table) → n < table_capacity table → after ≡ set table n v → table_votes (n + 1) after ≡ after_send (table_capacity table) (table_votes count table) v
 table_votes_written count table n v after counted room wrote = held_put count (length table) table refl n v after counted room wrote

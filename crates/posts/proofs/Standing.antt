@@ -52,8 +52,8 @@ module _ {V : Type 0} (G : Ghosts V) where
   standing-nth zero bytes k h = absurd (omega arith)
   standing-nth (suc n) bytes k h = standing_one n bytes k h (standing-nth n bytes k) (ltb k n) refl
 
-  pub frames-nth : (bytes : List ℕ) (k : ℕ) → k < frame_places G bytes → slice_get (frames_in G bytes) k ≡ Some (stands_for G (frame_at G k bytes))
-  frames-nth bytes k h = standing-nth (frame_places G bytes) bytes k h
+  pub frames_nth : (bytes : List ℕ) (k : ℕ) → k < frame_places G bytes → slice_get (frames_in G bytes) k ≡ Some (stands_for G (frame_at G k bytes))
+  frames_nth bytes k h = standing-nth (frame_places G bytes) bytes k h
 
   pub frames_past : (bytes : List ℕ) (k : ℕ) → frame_places G bytes ≤ k → slice_get (frames_in G bytes) k ≡ None
   frames_past bytes k h = slice_get_past (frames_in G bytes) k (omega (arith, h, frames_long G bytes))

@@ -13,13 +13,13 @@ use std::marker::PhantomData;
 use votes::numbers::Numbers;
 use votes::vote::Vote;
 
-pub type TablePost<'a, V> = MemoryPost<'a, Table<V>>;
+pub type TablePost<'a, V> = MemoryPost<'a, Vote<V>, Table<V>>;
 
-pub type FramePost<'a, V> = MemoryPost<'a, Frames<V>>;
+pub type FramePost<'a, V> = MemoryPost<'a, u8, Frames<V>>;
 
 #[derive(Drop)]
-pub struct MemoryPost<'a, L: Layout> {
-    memory: &'a mut [L::Item],
+pub struct MemoryPost<'a, I, L> {
+    memory: &'a mut [I],
     // Lent memory has a fixed length, so how many of its votes are those of the post stands beside it.
     count: usize,
     layout: PhantomData<L>,
@@ -42,9 +42,9 @@ fn fault_at<L: Layout>(place: usize) -> Fault
     }
 }
 
-impl<'a, L: Layout> MemoryPost<'a, L> {
+impl<'a, I: Copy, L: Layout<Item = I>> MemoryPost<'a, I, L> {
     // Whether memory can hold a vote.
-    pub fn check(memory: &[L::Item]) -> Result<(), TooSmall>
+    pub fn check(memory: &[I]) -> Result<(), TooSmall>
         ensures { result ≡ memory_check (capacity_in L.Layout memory.now) }
     {
         if capacity_of::<L>(memory) == 0 {
@@ -55,7 +55,7 @@ impl<'a, L: Layout> MemoryPost<'a, L> {
     }
 
     // A post whose first votes are those in the memory, as many as stated or as it may hold.
-    pub fn new(memory: &'a mut [L::Item], count: usize) -> MemoryPost<'a, L>
+    pub fn new(memory: &'a mut [I], count: usize) -> MemoryPost<'a, I, L>
         ensures count { result.count ≡ min count (capacity_in L.Layout memory.old) }
         ensures votes { votes_in L.Layout result.count result.memory.now ≡ votes_in L.Layout count memory.old }
         ensures same { result.memory.now ≡ memory.old }
@@ -76,7 +76,7 @@ impl<'a, L: Layout> MemoryPost<'a, L> {
     }
 }
 
-impl<'a, L: Layout> Post for MemoryPost<'a, L> {
+impl<'a, I: Copy, L: Layout<Item = I>> Post for MemoryPost<'a, I, L> {
     type Value = L::Value;
 
     ghost votes = { λ post. votes_in L.Layout post.count post.memory.now };
@@ -105,6 +105,7 @@ impl<'a, L: Layout> Post for MemoryPost<'a, L> {
         Ok(())
     }
 
+    // `new` cut it, but a struct that asks nothing of its types can't carry that it stays cut.
     fn count(&self) -> usize {
         self.count.min(self.capacity())
     }

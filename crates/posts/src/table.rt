@@ -1,5 +1,5 @@
 // The layout of a table: records, a vote in each.
-ghost use Rattle.std.specs.Prelude.{◌≡◌, length, refl, slice_set};
+ghost use Rattle.std.specs.Prelude.{length, refl, slice_set};
 ghost use Rattle.posts.specs.declared.fault.Layer.TheVariants.{Table as table_layer};
 
 use crate::fault::Layer;
@@ -8,6 +8,7 @@ use std::marker::PhantomData;
 use values::value::Value;
 use votes::vote::Vote;
 
+// Only a type: nobody makes one.
 pub struct Table<V> {
     kind: PhantomData<V>,
 }
