@@ -55,6 +55,7 @@ impl<'a, I: Copy, L: Layout<Item = I>> MemoryPost<'a, I, L> {
     }
 
     // A post whose first votes are those in the memory, as many as stated or as it may hold.
+    #[tactic(auto, using(crate::proofs::Holding::held_cut))]
     pub fn new(memory: &'a mut [I], count: usize) -> MemoryPost<'a, I, L>
         ensures count { result.count ≡ min count (capacity_in L.Layout memory.old) }
         ensures votes { votes_in L.Layout result.count result.memory.now ≡ votes_in L.Layout count memory.old }
@@ -106,11 +107,13 @@ impl<'a, I: Copy, L: Layout<Item = I>> Post for MemoryPost<'a, I, L> {
     }
 
     // `new` cut it, but a struct that asks nothing of its types can't carry that it stays cut.
+    #[tactic(auto, using(crate::proofs::Holding::held_count))]
     fn count(&self) -> usize {
         self.count.min(self.capacity())
     }
 
     // `fetch` and `numbers` differ in what they read: a closure for that would need a contract as long as both.
+    #[tactic(auto, using(crate::proofs::Holding::held_nth, crate::proofs::Holding::held_past, crate::proofs::Calls::fetched_is))]
     fn fetch(&self, place: usize) -> Result<Vote<L::Value>, Fault> {
         let vote = if place < self.count() {
             L::get(self.memory, place)
@@ -120,6 +123,7 @@ impl<'a, I: Copy, L: Layout<Item = I>> Post for MemoryPost<'a, I, L> {
         vote.ok_or(fault_at::<L>(place))
     }
 
+    #[tactic(auto, using(crate::proofs::Holding::held_nth, crate::proofs::Holding::held_past, crate::proofs::Calls::fetched_numbers_is))]
     fn numbers(&self, place: usize) -> Result<Numbers, Fault> {
         let numbers = if place < self.count() {
             L::numbers(self.memory, place)
