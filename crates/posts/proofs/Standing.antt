@@ -2,7 +2,7 @@
 use Rattle.std.proofs.Common.{◌≡◌, ℕ, zero, suc, ◌+◌, ◌-◌, ◌*◌, ◌/◌, ◌<◌, ◌≤◌, Bool, true, false, cond, eqb, List, [], ◌∷◌, ◌++◌, length, take, drop, set, Some, None, ltb, sym, refl, ap, ◌∙◌, ap₂, subst, suc-mul, arith}
 use borrow.Rule.Slice.PartMut.{put_mid, Post-is}
 use Rattle.std.proofs.lemmas.Nat.{div-add-mod', mul-le}
-use Rattle.std.proofs.lemmas.List.{append_assoc, length-append, length-drop, length-take, length-take-le, take-take, take_at, drop_at, set-append_left}
+use Rattle.std.proofs.lemmas.List.{append_assoc, length-append, length-drop, length-take, length-take-le, take-take, take_at, drop_at, set-append_left, set_past}
 use Rattle.std.proofs.Math.Seq.{set-append_seam}
 use Rattle.std.proofs.lemmas.Option.{slice_get_past}
 use Rattle.std.proofs.lemmas.Slice.{between_is, drop-append-drop}
@@ -57,6 +57,10 @@ module _ {V : Type 0} (G : Ghosts V) where
 
   pub frames_past : (bytes : List ℕ) (k : ℕ) → frame_places G bytes ≤ k → slice_get (frames_in G bytes) k ≡ None
   frames_past bytes k h = slice_get_past (frames_in G bytes) k (omega (arith, h, frames_long G bytes))
+
+  -- where there is no such place, nothing is put
+  pub frames_kept : (bytes : List ℕ) (k : ℕ) (v : Vote V) → frame_places G bytes ≤ k → frames_in G bytes ≡ set (frames_in G bytes) k v
+  frames_kept bytes k v h = sym (set_past (frames_in G bytes) k v (omega (arith, h, frames_long G bytes)))
 
   -- what frame n is, by the bytes up to its end
   frame_by_front : (n : ℕ) (bytes : List ℕ) → frame_at G n bytes ≡ drop (n * frame_size G) (take (suc n * frame_size G) bytes)

@@ -65,6 +65,7 @@ impl<V: Value> Layout for Frames<V> {
     }
 
     // By a test: what a slice is after a write through `get_mut` has no contract in the library.
+    #[tactic(auto, using(crate::proofs::Standing::part_put, crate::proofs::Standing::frames_kept))]
     fn put(bytes: &mut [u8], place: usize, vote: &Vote<V>) {
         if place < Self::places(bytes) {
             let size = frame_size::<V>();

@@ -90,6 +90,7 @@ impl<'a, I: Copy, L: Layout<Item = I>> Post for MemoryPost<'a, I, L> {
 
     ghost limited = { λ post. cut_limited (L.places post.memory.now) };
 
+    #[tactic(auto, using(crate::proofs::Calls::sent_there, crate::proofs::Calls::sent_full, crate::proofs::Calls::after_send_full, crate::proofs::Holding::held_put))]
     fn send(&mut self, vote: &Vote<L::Value>) -> Result<(), Fault>
         ensures value { result ≡ sent L.layer (capacity_in L.Layout self.old.memory.now) (votes_in L.Layout self.old.count self.old.memory.now) }
         ensures after { votes_in L.Layout self.new.count self.new.memory.now ≡ after_send (capacity_in L.Layout self.old.memory.now) (votes_in L.Layout self.old.count self.old.memory.now) vote.now }
