@@ -1,20 +1,17 @@
 -- What follows of any post, and what the lemmas of a post over memory say of a table and of frames. Assumes nothing.
-use Rattle.std.proofs.Common.{◌≡◌, ℕ, ◌+◌, ◌<◌, ◌≤◌, List, length, set, Some, None, Ok, Err, Option, Result, sym, refl, ap, ◌∙◌, arith, zero, suc, [], ◌∷◌, min, Bool, true, false, ltb, take}
+use Rattle.std.proofs.Common.{◌≡◌, ℕ, ◌+◌, ◌<◌, ◌≤◌, List, length, set, Some, None, Ok, Err, Option, sym, refl, ap, ◌∙◌, arith, zero, suc, [], ◌∷◌, min, Bool, true, false, ltb, take, ap₂}
 use Rattle.std.proofs.lemmas.Option.{slice_get_past}
 use Rattle.std.proofs.lemmas.Bool.{cond-true, lt-ltb, ltb-true, ltb-false}
 use Rattle.std.proofs.lemmas.List.{take-append-le, take_all}
 use Rattle.std.specs.List.{slice_get}
 use Rattle.std.specs.Option.{ok_or}
-use Rattle.std.specs.Result.{result_map_both}
-use Rattle.posts.specs.Posts.{after_send, fetched, fetched_numbers}
+use Rattle.posts.specs.Posts.{after_send, fetched}
 use Rattle.posts.specs.Memories.{table_capacity, table_votes, frame_capacity, frames_in, frames_long, frame_places, frame_votes, with_frame, bytes_after, cut, held, standing, standing_long}
 use Rattle.posts.specs.declared.fault.Fault.{Fault}
 use Rattle.posts.specs.declared.fault.Layer.{Layer}
 use Rattle.posts.proofs.Calls.{fetched_is}
 use Rattle.posts.proofs.Holding.{held_put}
-use Rattle.posts.proofs.Standing.{frames_put}
-use Rattle.votes.specs.Frames.{frame, frame_size, stands_for}
-use Rattle.votes.specs.Votes.{numbers_of}
+use Rattle.posts.proofs.Standing.{Written, frames_put}
 use Rattle.values.specs.declared.value.Value.{Ghosts}
 use Rattle.votes.specs.declared.vote.Vote.{Vote}
 
@@ -53,14 +50,18 @@ pub table_votes_written : {V : Type 0} (count : ℕ) (table : List (Vote V)) (n 
 table_votes_written count table n v after counted room wrote = held_put count (length table) table refl n v after counted room wrote
 
 -- bytes whose next frame was written
-pub frame_votes_written : {V : Type 0} (G : Ghosts V) (count : ℕ) (bytes : List ℕ) (n : ℕ) (v : Vote V) (new : List ℕ) → n ≡ length (frame_votes G count bytes) → n < frame_capacity G bytes → length new ≡ frame_size G → stands_for G new ≡ v → frame_votes G (n + 1) (with_frame G n bytes new) ≡ after_send (frame_capacity G bytes) (frame_votes G count bytes) v
-frame_votes_written G count bytes n v new counted room wide back =
-    held_put count (frame_places G bytes) (frames_in G bytes) (frames_long G bytes) n v (frames_in G (with_frame G n bytes new)) counted room (frames_put G n bytes new v (omega (arith, room)) wide back)
+module _ {V : Type 0} (G : Ghosts V) (count : ℕ) (bytes : List ℕ) (n : ℕ) (v : Vote V) (counted : n ≡ length (frame_votes G count bytes)) (room : n < frame_capacity G bytes) (new after : List ℕ) (wrote : Written G n bytes v new after) where
+  pub frame_votes_written : frame_votes G (n + 1) after ≡ after_send (frame_capacity G bytes) (frame_votes G count bytes) v
+  frame_votes_written =
+      let put = frames_put G n bytes new v (omega (arith, room)) wrote.wide wrote.back in
+      ap (frame_votes G (n + 1)) wrote.put ∙ held_put count (frame_places G bytes) (frames_in G bytes) (frames_long G bytes) n v (frames_in G (with_frame G n bytes new)) counted room put
 
-pub bytes_written : {V : Type 0} (G : Ghosts V) (count : ℕ) (bytes : List ℕ) (n : ℕ) (v : Vote V) → n ≡ length (frame_votes G count bytes) → n < frame_capacity G bytes → with_frame G n bytes (frame G v) ≡ bytes_after G count bytes v
-unfolding bytes_after
-bytes_written G count bytes n v counted room =
-    ap (λ k. with_frame G k bytes (frame G v)) counted ∙ sym (cond-true _ _ _ (lt-ltb (length (frame_votes G count bytes)) (frame_capacity G bytes) (omega (arith, counted, room))))
+  pub bytes_written : after ≡ bytes_after G count bytes v
+  unfolding bytes_after
+  bytes_written =
+      wrote.put
+      ∙ ap₂ (λ k bs. with_frame G k bytes bs) counted wrote.is_frame
+      ∙ sym (cond-true _ _ _ (lt-ltb (length (frame_votes G count bytes)) (frame_capacity G bytes) (omega (arith, counted, room))))
 
 -- the votes of frames by a count are what so many frames stand for
 module _ {V : Type 0} (G : Ghosts V) (bytes : List ℕ) where
