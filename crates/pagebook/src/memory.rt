@@ -35,7 +35,7 @@ fn send_to<L: Layout>(
     ensures memory { memory.new ≡ memory_after_send L.Layout count.old memory.old vote.now }
     ensures count { count.new ≡ length (after_send (capacity_in L.Layout memory.old) (votes_in L.Layout count.old memory.old) vote.now) }
 {
-    let mut post = MemoryPost::<L>::new(memory, *count);
+    let mut post = MemoryPost::<L::Item, L>::new(memory, *count);
     let sent = post.send(vote);
     *count = post.count();
     sent
@@ -51,7 +51,7 @@ fn look_at<V: TextValue, L: Layout<Value = V>>(
     ensures value { IfOk result (λ s. string_bytes s ≡ look_answer V.Value.own V.TextValue.own L.layer (votes_in L.Layout count memory.old) look) }
     ensures same { memory.new ≡ memory.old }
 {
-    look_text(heap, &MemoryPost::<L>::new(memory, count), look)
+    look_text(heap, &MemoryPost::<L::Item, L>::new(memory, count), look)
 }
 
 impl<V: TextValue> Memory<V> {
@@ -78,6 +78,7 @@ impl<V: TextValue> Memory<V> {
     }
 
     // Writes a vote at a place below the capacity: a post that starts there sends there.
+    #[tactic(auto, using(crate::proofs::Filling::fills))]
     pub(crate) fn fill(&mut self, place: usize, vote: &Vote<V>) -> Result<(), Refusal>
         ensures { Writes (filled V.Value.own place vote.now (held_in self.old)) result (held_in self.old) (held_in self.new) }
     {
