@@ -22,7 +22,7 @@ impl TextValue for Rate {
         if word.starts_with('+') {
             return Err(Refusal::Malformed);
         }
-        let amount = word.parse::<i64>().map_err(|_| Refusal::Malformed)?;
+        let amount = word.parse::<i64>()?;
         Ok(Rate { amount })
     }
 

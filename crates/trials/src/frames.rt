@@ -66,6 +66,7 @@ fn damaged_frames_stand_for_the_empty_vote(rt: HostRuntime) {
     assert_eq!(rt; vote.numbers.page, 0);
     assert_eq!(rt; vote.numbers.house, 0);
     assert!(rt; vote.value.same(&Rate::blank()));
+    assert!(rt; vote == Vote::empty());
 }
 
 #[test]

@@ -1,5 +1,6 @@
 // Posts of both memories at both kinds of value: filled up, refused, and read back.
-use posts::fault::Layer;
+use posts::fault::{Fault, Layer};
+use posts::memory::TooSmall;
 use posts::memory_post::{FramePost, TablePost};
 use posts::post::Post;
 use values::fingerprint::Fingerprint;
@@ -100,28 +101,33 @@ fn a_starting_count_is_cut_to_the_capacity(rt: HostRuntime) {
 #[test]
 fn memory_of_less_than_a_vote_holds_none(rt: HostRuntime) {
     let mut bytes = [0; 20];
-    assert_eq!(rt; FramePost::<Rate>::check(&bytes).is_err(), true);
-    assert_eq!(rt; FramePost::<Rate>::check(&[0; 21]).is_ok(), true);
-    assert_eq!(rt; TablePost::<Rate>::check(&[]).is_err(), true);
+    assert!(rt; FramePost::<Rate>::check(&bytes) == Err(TooSmall));
+    assert!(rt; FramePost::<Rate>::check(&[0; 21]) == Ok(()));
+    assert!(rt; TablePost::<Rate>::check(&[]) == Err(TooSmall));
     let mut post = FramePost::<Rate>::new(&mut bytes, 3);
-    match post.send(&Vote::empty()) {
-        Ok(()) => assert!(rt; false),
-        Err(fault) => assert!(rt; fault.place == 0 && fault.layer == Layer::Frame),
-    }
+    assert!(rt;
+        post.send(&Vote::empty())
+            == Err(Fault {
+                layer: Layer::Frame,
+                place: 0,
+            })
+    );
 }
 
 #[test]
 fn an_unreadable_frame_is_a_vote_of_kind_0(rt: HostRuntime) {
     let mut bytes = [0x77; 42];
     let post = FramePost::<Rate>::new(&mut bytes, 2);
-    match post.fetch(1) {
-        Ok(vote) => assert!(rt;
-            vote.numbers.kind == 0 && vote.numbers.page == 0 && vote.value.same(&Rate::blank())
-        ),
-        Err(_) => assert!(rt; false),
-    }
-    match post.numbers(1) {
-        Ok(numbers) => assert!(rt; numbers.kind == 0 && numbers.house == 0),
-        Err(_) => assert!(rt; false),
-    }
+    // The empty vote: kind, page, house and the other numbers are 0, and its value is blank.
+    let numbers = Numbers {
+        kind: 0,
+        page: 0,
+        round: 0,
+        house: 0,
+        cp: 0,
+        val: 0,
+    };
+    let value = Rate::blank();
+    assert!(rt; post.fetch(1) == Ok(Vote { numbers, value }));
+    assert!(rt; post.numbers(1) == Ok(numbers));
 }

@@ -25,6 +25,7 @@ pub fn worked_frame() -> [u8; 21]
         value: Rate { amount: 12_500 },
     };
     let mut frame = [0; 21];
+    // No error can come: the frame of a rate has 21 bytes.
     let _ = write_frame(vote, &mut frame);
     frame
 }

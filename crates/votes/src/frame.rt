@@ -26,7 +26,8 @@ pub fn frame_size<V: Value>() -> usize
 fn frame_length<V: Value>() -> u16
     ensures { result ≡ frame_length V.Value.own }
 {
-    // No kind of value is wider than 32 bytes, so the cast keeps the number.
+    // No kind of value is wider than 32 bytes (the law `most`), so the cast keeps the number; try_from would have an
+    // error that cannot come.
     (HEADER - 2 + V::width()) as u16
 }
 
@@ -132,6 +133,7 @@ pub fn read_frame<V: Value>(bytes: &[u8]) -> Vote<V>
 }
 
 // The numbers of the vote that a frame stands for, from its header alone.
+#[tactic(auto, unfolding(crate::specs::Frames::stands_for))]
 pub fn read_numbers<V: Value>(bytes: &[u8]) -> Numbers
     ensures { result ≡ numbers_of (stands_for V.Value.own bytes.now) }
 {

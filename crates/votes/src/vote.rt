@@ -45,7 +45,7 @@ impl<V: Value> Vote<V> {
     fn fits(&self, shape: Shape) -> bool
         ensures { result ≡ fits_shape V.Value.own shape self.now }
     {
-        let blank = self.value.same(&V::blank());
+        let blank = self.value == V::blank();
         let n = self.numbers;
         n.cp <= shape.cp && shape.low <= n.val && n.val <= shape.high && blank != shape.valued
     }
@@ -61,6 +61,7 @@ impl<V: Value> Vote<V> {
     }
 
     // Whether the numbers agree in all but val.
+    #[tactic(auto, unfolding(crate::specs::Votes::same_slot))]
     pub fn shares_slot(&self, other: &Vote<V>) -> bool
         ensures { result ≡ same_slot self.now other.now }
     {

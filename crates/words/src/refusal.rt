@@ -1,12 +1,14 @@
 // Why a word, a line or a command is refused.
 ghost use Rattle.std.specs.Prelude.{◌≡◌, Some as some};
-ghost use Rattle.words.specs.declared.refusal.Refusal.TheVariants.{OutOfMemory};
+ghost use Rattle.words.specs.declared.refusal.Refusal.TheVariants.{Malformed, OutOfMemory};
 ghost use Rattle.words.specs.Refusals.{refusal_text, hex_refusal};
 
 use hex::FromHexError;
 use std::alloc::AllocError;
 use std::error::Error;
 use std::fmt;
+use std::num::ParseIntError;
+use std::str::Utf8Error;
 
 #[derive(Clone, Copy, Debug, PartialEq, Eq)]
 pub enum Refusal {
@@ -45,5 +47,21 @@ impl From<FromHexError> for Refusal {
             FromHexError::OutOfMemory => Refusal::OutOfMemory,
             _ => Refusal::Malformed,
         }
+    }
+}
+
+impl From<ParseIntError> for Refusal {
+    ghost from_gives = { λ _ r. r ≡ Malformed };
+
+    fn from(_e: ParseIntError) -> Refusal {
+        Refusal::Malformed
+    }
+}
+
+impl From<Utf8Error> for Refusal {
+    ghost from_gives = { λ _ r. r ≡ Malformed };
+
+    fn from(_e: Utf8Error) -> Refusal {
+        Refusal::Malformed
     }
 }
