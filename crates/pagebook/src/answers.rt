@@ -19,6 +19,7 @@ pub(crate) fn frame_text<V: TextValue>(heap: Global, vote: Vote<V>) -> Result<St
     ensures { IfOk result (λ s. string_bytes s ≡ frame_answer V.Value.own vote) }
 {
     let mut frame = vec![in heap; 0; frame_size::<V>()]?;
+    // The buffer is as long as a frame, so this can't fail.
     let _ = write_frame(vote, frame.as_mut_slice());
     show_hex(heap, frame.as_slice())
 }
@@ -100,7 +101,7 @@ pub(crate) fn look_text<V: TextValue, P: Post<Value = V>>(
 ) -> Result<String, AllocError>
     ensures { IfOk result (λ s. string_bytes s ≡ look_answer V.Value.own V.TextValue.own P.Post.layer (P.Post.votes post.now) look) }
 {
-    // Three looks, of three results: closures for them would give one.
+    // The looks are closed, so a match names each, and the contract each answer.
     match look {
         Look::Fetch(place) => fetched_text(heap, post.fetch(place)),
         Look::Count => {

@@ -99,6 +99,10 @@ impl<V: TextValue> Desk<V> {
         match command {
             Command::Frame(vote) => Ok(frame_text(heap, vote)?),
             Command::Read(bytes) => Ok(read_text::<V>(heap, bytes.as_slice())?),
+            // A second post is refused before memory is allocated for it.
+            Command::Table(..) | Command::Frames(..) if self.memory.is_some() => {
+                Err(Refusal::Malformed)
+            }
             Command::Table(records, count) => {
                 let mut table = Vec::new(heap);
                 table.resize(records, Vote::empty())?;

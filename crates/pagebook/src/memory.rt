@@ -19,6 +19,7 @@ use text::text_value::TextValue;
 use votes::vote::Vote;
 use words::refusal::Refusal;
 
+// Two layouts, and no more: each method matches once and calls one generic function.
 #[derive(Drop)]
 pub(crate) enum Memory<V> {
     Table(Vec<Vote<V>>),
