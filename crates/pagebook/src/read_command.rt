@@ -1,9 +1,10 @@
 // The command that the words of a line write.
-ghost use Rattle.std.specs.Prelude.{◌≡◌, vec_items};
+ghost use Rattle.std.specs.Prelude.{◌≡◌, IfErr, vec_items};
 ghost use Rattle.pagebook.specs.Commands.{bytes_of, PostReads, CommandReads};
 ghost use Rattle.std.specs.Option.{option_map};
 ghost use Rattle.words.specs.Lines.{texts};
 ghost use Rattle.words.specs.Refusals.{IfRead};
+ghost use Rattle.words.specs.declared.refusal.Refusal.TheVariants.{Malformed};
 
 use super::command::{Command, Look};
 use std::alloc::Global;
@@ -32,7 +33,8 @@ fn read_bytes(heap: Global, word: &str) -> Result<Vec<u8>, Refusal>
 
 // A post by the kind of its memory, the size of that and the stated count.
 fn read_post<V>(form: &str, size: &str, count: &str) -> Result<Command<V>, Refusal>
-    ensures { IfRead result (λ o. PostReads form.now size.now count.now o) }
+    ensures value { IfRead result (λ o. PostReads form.now size.now count.now o) }
+    ensures refusal { IfErr result (λ why. why ≡ Malformed) }
 {
     let size = number_in(size)?;
     let count = number_in(count)?;

@@ -42,12 +42,12 @@ returns-in_ok-read_bytes-in-read-len1 g c =
 pub returns-in-post-len2 : goal.returns-in-post-len2
 unfolding CommandReads PostWords
 returns-in-post-len2 g c =
-    rw (with_words _ _ _ c.in-len1-up.len_at_least c.in-post-len2.is-post-0 (two_of _ (search rules))) c.read_post.ensures
+    rw (with_words _ _ _ c.in-len1-up.len_at_least c.in-post-len2.is-post-0 (two_of _ (search rules))) c.read_post.ensures.value
 
 pub returns-in-post-len3 : goal.returns-in-post-len3
 unfolding CommandReads PostWords
 returns-in-post-len3 g c =
-    rw (with_words _ _ _ c.in-len1-up.len_at_least c.in-post-len3.is-post-0 (three_of _ (search rules))) c.read_post-in-post-len3.ensures
+    rw (with_words _ _ _ c.in-len1-up.len_at_least c.in-post-len3.is-post-0 (three_of _ (search rules))) c.read_post-in-post-len3.ensures.value
 
 pub returns-in_err-number_in-in-fill-len1-up : goal.returns-in_err-number_in-in-fill-len1-up
 unfolding CommandReads FillWords
