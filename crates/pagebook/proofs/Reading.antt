@@ -4,8 +4,6 @@ use Rattle.std.proofs.lemmas.Bool.{cases_lt, ne_eqb, lt-ltb}
 use Rattle.std.proofs.lemmas.List.{length-map, take_rest}
 use Rattle.std.specs.Prelude.{IsErrAnd, OkIff}
 use Rattle.std.specs.Int.{FitsUnsignedBits}
-use Rattle.std.specs.Option.{ok_or}
-use Rattle.std.specs.Result.{result_ok}
 use Rattle.std.specs.Str.{bytes_eq}
 use Rattle.std.proofs.lemmas.Slice.Eq.{bytes_eq-Decides}
 use Rattle.std.specs.declared.num.TryFromIntError.{TryFromIntError}
@@ -79,17 +77,13 @@ module _ (word : List ℕ) where
   abbrev Taken : ℕ → Result ℕ TryFromIntError → Type 0
   Taken k r = OkIff r (FitsUnsignedBits 64 (pos k)) (unsigned_abs (pos k))
 
-  told : (r : Result ℕ Refusal) → NumberIn Taken word r → NumberReads highest_place word (result_ok r)
-  told (Ok n) h = ((h.0.0, omega (arith, h.0.1)), h.1.1)
-  told (Err why) h = λ writes. (h.1 (writes.0, omega (arith, writes.1))).1 (omega (arith, writes.1))
-
-  pub place_told : (r : Result ℕ Refusal) (o p : Option ℕ) → o ≡ result_ok r → o ≡ p → NumberIn Taken word r → NumberReads highest_place word p
-  place_told r o p e f h = rw (sym f ∙ e) (told r h)
-
   pub place_read : (r : Result ℕ Refusal) → NumberIn Taken word r → IfRead r (NumberReads highest_place word)
-  place_read (Ok n) h = told (Ok n) h
-  place_read (Err Malformed) h = told (Err Malformed) h
+  place_read (Ok n) h = ((h.0.0, omega (arith, h.0.1)), h.1.1)
+  place_read (Err Malformed) h = λ writes. (h.1 (writes.0, omega (arith, writes.1))).1 (omega (arith, writes.1))
   place_read (Err OutOfMemory) h = tt
+
+  pub place_told : (r : Result ℕ Refusal) (n : ℕ) → r ≡ Ok n → NumberIn Taken word r → NumberReads highest_place word (Some n)
+  place_told r n was h = let read = place_read r h in rw was at read
 
 -- a size within what a memory may have, and a count
 module _ {V : Type 0} (most : ℕ) (f : ℕ → ℕ → Command V) (size count : List ℕ) where
@@ -131,11 +125,6 @@ module _ {V : Type 0} (form size count : List ℕ) (o : Option (Command V)) wher
   pub in_neither : (form ≡ codes "table" → ⊥) → (form ≡ codes "frame" → ⊥) → o ≡ None → PostReads form size count o
   unfolding PostReads
   in_neither not_table not_frame none = rw (differ _ _ not_table, differ _ _ not_frame) none
-
--- a post that is read, or refused
-pub post_read : {A : Type 0} (P : Option A → Type 0) (o : Option A) (r : Result A Refusal) → r ≡ ok_or o Malformed → P o → IfRead r P
-post_read P None r e read = rw e read
-post_read P (Some a) r e read = rw e read
 
 -- by the verb that the first word names
 by_verb : (w : List ℕ) (P : Type 0) (Q : Verb → Type 0) → P → ((v : Verb) → w ≡ verb_word v → Q v) → (vs : List Verb) → MatchOption (verb_among vs w) P Q

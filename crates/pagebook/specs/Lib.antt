@@ -1,4 +1,5 @@
 -- What a reader has to believe of the program, shortest first.
+pub mod Faults
 pub mod Verbs
 pub mod Stages
 pub mod Commands

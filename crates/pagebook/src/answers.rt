@@ -1,5 +1,6 @@
 // What the commands answer, as text.
-ghost use Rattle.std.specs.Prelude.{◌≡◌, IfOk, string_bytes};
+ghost use Rattle.std.specs.Prelude.{◌≡◌, ◌++◌, IfOk, codes, string_bytes};
+ghost use Rattle.text.specs.VoteWords.{vote_text};
 ghost use Rattle.pagebook.specs.Answers.{frame_answer, read_answer, check_answer, sent_answer, fetched_answer, votes_answer, look_answer};
 
 use super::command::Look;
@@ -19,8 +20,17 @@ pub(crate) fn frame_text<V: TextValue>(heap: Global, vote: Vote<V>) -> Result<St
     ensures { IfOk result (λ s. string_bytes s ≡ frame_answer V.Value.own vote) }
 {
     let mut frame = vec![in heap; 0; frame_size::<V>()]?;
+    // The buffer is as long as a frame, so this can't fail.
     let _ = write_frame(vote, frame.as_mut_slice());
     show_hex(heap, frame.as_slice())
+}
+
+// A vote as the answers name it.
+fn vote_words<V: TextValue>(heap: Global, vote: Vote<V>) -> Result<String, AllocError>
+    ensures { IfOk result (λ s. string_bytes s ≡ codes "vote " ++ vote_text V.Value.own V.TextValue.own vote) }
+{
+    let words = show_vote(heap, vote)?;
+    format!(in heap; "vote {words}")
 }
 
 // The vote in a frame, or that the frame is unreadable.
@@ -29,8 +39,7 @@ pub(crate) fn read_text<V: TextValue>(heap: Global, bytes: &[u8]) -> Result<Stri
 {
     let vote = read_frame::<V>(bytes);
     if is_readable::<V>(bytes) {
-        let words = show_vote(heap, vote)?;
-        format!(in heap; "vote {words}")
+        vote_words(heap, vote)
     } else {
         String::from_str(heap, "unreadable")
     }
@@ -67,10 +76,7 @@ pub(crate) fn fetched_text<V: TextValue>(
     ensures { IfOk result (λ s. string_bytes s ≡ fetched_answer V.Value.own V.TextValue.own fetched) }
 {
     match fetched {
-        Ok(vote) => {
-            let words = show_vote(heap, vote)?;
-            format!(in heap; "vote {words}")
-        }
+        Ok(vote) => vote_words(heap, vote),
         Err(fault) => format!(in heap; "12 {fault}"),
     }
 }
@@ -100,7 +106,7 @@ pub(crate) fn look_text<V: TextValue, P: Post<Value = V>>(
 ) -> Result<String, AllocError>
     ensures { IfOk result (λ s. string_bytes s ≡ look_answer V.Value.own V.TextValue.own P.Post.layer (P.Post.votes post.now) look) }
 {
-    // Three looks, of three results: closures for them would give one.
+    // The looks are closed, so a match names each, and the contract each answer.
     match look {
         Look::Fetch(place) => fetched_text(heap, post.fetch(place)),
         Look::Count => {

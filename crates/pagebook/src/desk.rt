@@ -46,9 +46,7 @@ impl<V: TextValue> Desk<V> {
     fn send(&mut self, heap: Global, vote: Vote<V>) -> Result<String, Refusal>
         ensures { IfRead result (λ answer. Replied (send_reply V.Value.own vote (view self.old)) answer (view self.old) (view self.new)) }
     {
-        let Some(memory) = &mut self.memory else {
-            return Err(Refusal::Malformed);
-        };
+        let memory = self.memory.as_mut().ok_or(Refusal::Malformed)?;
         self.called = true;
         let sent = memory.send(&mut self.count, &vote);
         Ok(sent_text(heap, sent)?)
@@ -57,9 +55,7 @@ impl<V: TextValue> Desk<V> {
     fn look(&mut self, heap: Global, look: Look) -> Result<String, Refusal>
         ensures { IfRead result (λ answer. Replied (look_reply V.Value.own V.TextValue.own look (view self.old)) answer (view self.old) (view self.new)) }
     {
-        let Some(memory) = &mut self.memory else {
-            return Err(Refusal::Malformed);
-        };
+        let memory = self.memory.as_mut().ok_or(Refusal::Malformed)?;
         self.called = true;
         Ok(memory.look(heap, self.count, look)?)
     }
@@ -68,9 +64,7 @@ impl<V: TextValue> Desk<V> {
     fn fill(&mut self, heap: Global, place: usize, vote: Vote<V>) -> Result<String, Refusal>
         ensures { IfRead result (λ answer. Replied (prepare (filled V.Value.own place vote) (view self.old)) answer (view self.old) (view self.new)) }
     {
-        let Some(memory) = &mut self.memory else {
-            return Err(Refusal::Malformed);
-        };
+        let memory = self.memory.as_mut().ok_or(Refusal::Malformed)?;
         if self.called {
             return Err(Refusal::Malformed);
         }
@@ -81,9 +75,7 @@ impl<V: TextValue> Desk<V> {
     fn poke(&mut self, heap: Global, offset: usize, new: &[u8]) -> Result<String, Refusal>
         ensures { IfRead result (λ answer. Replied (prepare (poked offset new.now) (view self.old)) answer (view self.old) (view self.new)) }
     {
-        let Some(memory) = &mut self.memory else {
-            return Err(Refusal::Malformed);
-        };
+        let memory = self.memory.as_mut().ok_or(Refusal::Malformed)?;
         if self.called {
             return Err(Refusal::Malformed);
         }
@@ -99,6 +91,10 @@ impl<V: TextValue> Desk<V> {
         match command {
             Command::Frame(vote) => Ok(frame_text(heap, vote)?),
             Command::Read(bytes) => Ok(read_text::<V>(heap, bytes.as_slice())?),
+            // A second post is refused before memory is allocated for it.
+            Command::Table(..) | Command::Frames(..) if self.memory.is_some() => {
+                Err(Refusal::Malformed)
+            }
             Command::Table(records, count) => {
                 let mut table = Vec::new(heap);
                 table.resize(records, Vote::empty())?;

@@ -1,4 +1,7 @@
 // Why the program stops early.
+ghost use Rattle.std.specs.Prelude.{◌≡◌};
+ghost use Rattle.pagebook.specs.Faults.{fault_at};
+
 use std::{fmt, io};
 use words::refusal::Refusal;
 
@@ -16,7 +19,9 @@ pub(crate) enum Fault {
 
 impl Fault {
     // Why a line with a number was refused.
-    pub(crate) fn at(number: u64, refusal: Refusal) -> Fault {
+    pub(crate) fn at(number: u64, refusal: Refusal) -> Fault
+        ensures { result ≡ fault_at number refusal }
+    {
         match refusal {
             Refusal::Malformed => Fault::Malformed(number),
             Refusal::OutOfMemory => Fault::Memory,

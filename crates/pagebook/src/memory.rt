@@ -19,6 +19,7 @@ use text::text_value::TextValue;
 use votes::vote::Vote;
 use words::refusal::Refusal;
 
+// Two layouts, and no more: each method matches once and calls one generic function.
 #[derive(Drop)]
 pub(crate) enum Memory<V> {
     Table(Vec<Vote<V>>),
@@ -83,7 +84,7 @@ impl<V: TextValue> Memory<V> {
         ensures { Writes (filled V.Value.own place vote.now (held_in self.old)) result (held_in self.old) (held_in self.new) }
     {
         let mut count = place;
-        self.send(&mut count, vote).or(Err(Refusal::Malformed))
+        self.send(&mut count, vote).map_err(|_| Refusal::Malformed)
     }
 
     // Writes bytes from an offset on, where they lie inside the bytes of frames.

@@ -1,9 +1,10 @@
 // The command that the words of a line write.
-ghost use Rattle.std.specs.Prelude.{◌≡◌, vec_items};
+ghost use Rattle.std.specs.Prelude.{◌≡◌, IfErr, vec_items};
 ghost use Rattle.pagebook.specs.Commands.{bytes_of, PostReads, CommandReads};
 ghost use Rattle.std.specs.Option.{option_map};
 ghost use Rattle.words.specs.Lines.{texts};
 ghost use Rattle.words.specs.Refusals.{IfRead};
+ghost use Rattle.words.specs.declared.refusal.Refusal.TheVariants.{Malformed};
 
 use super::command::{Command, Look};
 use std::alloc::Global;
@@ -31,15 +32,16 @@ fn read_bytes(heap: Global, word: &str) -> Result<Vec<u8>, Refusal>
 }
 
 // A post by the kind of its memory, the size of that and the stated count.
-fn read_post<V>(form: &str, size: &str, count: &str) -> Option<Command<V>>
-    ensures { PostReads form.now size.now count.now result }
+fn read_post<V>(form: &str, size: &str, count: &str) -> Result<Command<V>, Refusal>
+    ensures value { IfRead result (λ o. PostReads form.now size.now count.now o) }
+    ensures refusal { IfErr result (λ why. why ≡ Malformed) }
 {
-    let size = number_in(size).ok()?;
-    let count = number_in(count).ok()?;
+    let size = number_in(size)?;
+    let count = number_in(count)?;
     match form {
-        "table" if size <= MOST_RECORDS => Some(Command::Table(size, count)),
-        "frame" if size <= MOST_BYTES => Some(Command::Frames(size, count)),
-        _ => None,
+        "table" if size <= MOST_RECORDS => Ok(Command::Table(size, count)),
+        "frame" if size <= MOST_BYTES => Ok(Command::Frames(size, count)),
+        _ => Err(Refusal::Malformed),
     }
 }
 
@@ -57,8 +59,8 @@ pub(crate) fn read_command<V: TextValue>(
         ("frame", vote) => Ok(Command::Frame(read_vote(heap, vote)?)),
         ("send", vote) => Ok(Command::Send(read_vote(heap, vote)?)),
         ("read", [hex]) => Ok(Command::Read(read_bytes(heap, hex)?)),
-        ("post", [form, size]) => read_post(form, size, "0").ok_or(Refusal::Malformed),
-        ("post", [form, size, count]) => read_post(form, size, count).ok_or(Refusal::Malformed),
+        ("post", [form, size]) => read_post(form, size, "0"),
+        ("post", [form, size, count]) => read_post(form, size, count),
         ("fill", [place, vote @ ..]) => Ok(Command::Fill(
             number_in(place)?,
             read_vote(heap, vote)?,

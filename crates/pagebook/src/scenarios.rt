@@ -17,10 +17,7 @@ fn transcript(heap: Global, scenario: &str) -> Result<String, Refusal> {
 }
 
 fn prints(heap: Global, scenario: &str, expected: &str) -> bool {
-    match transcript(heap, scenario) {
-        Ok(text) => text.as_str() == expected,
-        Err(_) => false,
-    }
+    matches!(transcript(heap, scenario), Ok(text) if text.as_str() == expected)
 }
 
 const FULL_TABLE: &str =

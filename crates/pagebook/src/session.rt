@@ -46,6 +46,7 @@ fn first_mark(line: &[u8]) -> Option<u8>
 fn is_ignored(line: &[u8]) -> bool
     ensures { result ≡ ignored line.now }
 {
+    // A line without such a byte is taken as a comment.
     first_mark(line).unwrap_or(b'#') == b'#'
 }
 

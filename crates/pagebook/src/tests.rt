@@ -40,10 +40,7 @@ fn is_silent(session: &mut Session, heap: Global, line: &[u8]) -> bool {
 }
 
 fn says(session: &mut Session, heap: Global, line: &str, text: &str) -> bool {
-    match session.respond(heap, line.as_bytes()) {
-        Ok(Some(answer)) => answer.as_str() == text,
-        _ => false,
-    }
+    matches!(session.respond(heap, line.as_bytes()), Ok(Some(answer)) if answer.as_str() == text)
 }
 
 #[test]

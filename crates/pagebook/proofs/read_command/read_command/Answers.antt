@@ -1,7 +1,7 @@
 -- Why `read_command::read_command` meets its contract.
 use Rattle.std.proofs.Common.{Some, refl, rules, arith}
 use Rattle.pagebook.specs.Commands.{ReadWords, PostWords, FillWords, PokeWords, FetchWords, CommandReads}
-use Rattle.pagebook.proofs.Reading.{none_of, one_of, two_of, three_of, first_of, with_words, begins, stopped, went_on, place_read, post_read, unwritten}
+use Rattle.pagebook.proofs.Reading.{none_of, one_of, two_of, three_of, first_of, with_words, begins, stopped, went_on, place_read, unwritten}
 use Rattle.pagebook.proofs.read_command.read_command.Goals as goal
 
 pub returns-in_default : goal.returns-in_default
@@ -42,12 +42,12 @@ returns-in_ok-read_bytes-in-read-len1 g c =
 pub returns-in-post-len2 : goal.returns-in-post-len2
 unfolding CommandReads PostWords
 returns-in-post-len2 g c =
-    rw (with_words _ _ _ c.in-len1-up.len_at_least c.in-post-len2.is-post-0 (two_of _ (search rules))) (post_read _ c.read_post.result c.ok_or.result c.ok_or.ensures.value c.read_post.ensures)
+    rw (with_words _ _ _ c.in-len1-up.len_at_least c.in-post-len2.is-post-0 (two_of _ (search rules))) c.read_post.ensures.value
 
 pub returns-in-post-len3 : goal.returns-in-post-len3
 unfolding CommandReads PostWords
 returns-in-post-len3 g c =
-    rw (with_words _ _ _ c.in-len1-up.len_at_least c.in-post-len3.is-post-0 (three_of _ (search rules))) (post_read _ c.read_post-in-post-len3.result c.ok_or-in-post-len3.result c.ok_or-in-post-len3.ensures.value c.read_post-in-post-len3.ensures)
+    rw (with_words _ _ _ c.in-len1-up.len_at_least c.in-post-len3.is-post-0 (three_of _ (search rules))) c.read_post-in-post-len3.ensures.value
 
 pub returns-in_err-number_in-in-fill-len1-up : goal.returns-in_err-number_in-in-fill-len1-up
 unfolding CommandReads FillWords
