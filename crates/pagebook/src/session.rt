@@ -121,7 +121,7 @@ impl Session {
         if is_ignored(line) {
             return Ok(None);
         }
-        let line = from_utf8(line).map_err(|_| Refusal::Malformed)?;
+        let line = from_utf8(line)?;
         Ok(Some(self.speak(heap, line)?))
     }
 }
