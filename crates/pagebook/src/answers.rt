@@ -1,4 +1,4 @@
-// What the commands answer, as text.
+// What the commands answer, as text. Each clause says in the same words which bytes the text has, where there is memory for it.
 ghost use Rattle.std.specs.Prelude.{◌≡◌, ◌++◌, IfOk, codes, string_bytes};
 ghost use Rattle.text.specs.VoteWords.{vote_text};
 ghost use Rattle.pagebook.specs.Answers.{frame_answer, read_answer, check_answer, sent_answer, fetched_answer, votes_answer, look_answer};

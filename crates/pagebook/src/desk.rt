@@ -11,6 +11,7 @@ use text::text_value::TextValue;
 use votes::vote::Vote;
 use words::refusal::Refusal;
 
+// Contracts see a desk by its `view`. A model would save that word in them, and take as many lines.
 #[derive(Drop)]
 pub(crate) struct Desk<V> {
     memory: Option<Memory<V>>,

@@ -26,7 +26,8 @@ pub(crate) enum Memory<V> {
     Frames(Vec<u8>),
 }
 
-// Sends a vote to the post over memory with a count, and keeps the count that it has then.
+// Sends a vote to the post over memory with a count, and keeps the count that it has then. A post can't be kept with the memory that it
+// borrows, so here and below memory and count come apart, and the post is made of them for each call.
 fn send_to<L: Layout>(
     memory: &mut [L::Item],
     count: &mut usize,
