@@ -19,6 +19,7 @@ use values::rate::Rate;
 use words::line::words_of;
 use words::refusal::Refusal;
 
+// What a line names and contracts say of a session, which holds a desk besides.
 #[derive(Clone, Copy, Debug, PartialEq, Eq)]
 pub(crate) enum Stage {
     // The kind of value is yet to be named.

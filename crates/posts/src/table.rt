@@ -40,6 +40,7 @@ impl<V: Value> Layout for Table<V> {
         records.get(place).copied()
     }
 
+    // By a test, as for frames.
     fn put(records: &mut [Vote<V>], place: usize, vote: &Vote<V>) {
         if place < records.len() {
             records[place] = *vote;
