@@ -1,5 +1,5 @@
 // The desk: the memory of a post, and the commands on it.
-ghost use Rattle.std.specs.Prelude.{◌≡◌};
+ghost use Rattle.std.specs.Prelude.{◌≡◌, None};
 ghost use Rattle.words.specs.Refusals.{IfRead};
 ghost use Rattle.pagebook.specs.Desks.{Replied, bare, filled, held_in, lay, look_reply, poked, prepare, reply, send_reply, view};
 
@@ -32,12 +32,11 @@ impl<V: TextValue> Desk<V> {
         }
     }
 
+    // Lays memory for a post on a desk that has none.
     fn lay(&mut self, heap: Global, memory: Memory<V>, count: usize) -> Result<String, Refusal>
+        requires { (view self.old).held ≡ None }
         ensures { IfRead result (λ answer. Replied (lay V.Value.own (held_in memory) count (view self.old)) answer (view self.old) (view self.new)) }
     {
-        if self.memory.is_some() {
-            return Err(Refusal::Malformed);
-        }
         let text = check_text(heap, memory.check())?;
         self.memory = Some(memory);
         self.count = count;
