@@ -1,10 +1,13 @@
 -- Hexadecimal text in the words of this crate is that of the crate `hex`, so it reads back as the bytes that it was written from. Assumes nothing.
-use Rattle.std.proofs.Common.{◌≡◌, ℕ, zero, suc, ◌+◌, ◌*◌, ◌/◌, ◌%◌, ◌<◌, ◌==◌, Bool, true, false, cond, ◌&&◌, ltb, List, [], ◌∷◌, length, get_or, Some, None, Ok, Err, Option, Result, sym, refl, ap, ◌∙◌, ap₂, inl, inr, arith}
+use Rattle.std.proofs.Common.{◌≡◌, ℕ, zero, suc, ◌+◌, ◌*◌, ◌/◌, ◌%◌, ◌<◌, ◌==◌, Bool, true, false, cond, ◌&&◌, ltb, List, [], ◌∷◌, length, get_or, Some, None, Ok, Err, Option, Result, IfOk, String, Global, string_bytes, sym, refl, ap, ◌∙◌, ap₂, inl, inr, arith}
 use Rattle.std.proofs.lemmas.Bool.{and_parts, cases_eq, cases_lt, eqb-true}
 use Rattle.std.proofs.lemmas.Bool.Decides.{nat_tests}
+use Rattle.std.proofs.lemmas.Result.{IfOk-weaker}
+use Rattle.std.specs.declared.alloc.AllocError.{AllocError}
 use Rattle.std.specs.Option.{option_map}
 use Rattle.std.specs.Result.{result_ok}
-use Rattle.std.specs.Char.{digit_value, digit_char}
+use Rattle.std.specs.Char.{digit_value, digit_char, is_ascii_hexdigit}
+use Rattle.std.specs.List.{list_all}
 use Rattle.hex.specs.Hex.{IsBytes, decode_of, decode_pairs, digit_or_error, encode_lower, encode_with, hex_digit_value, lower_digits, ◌>>=◌}
 use Rattle.hex.specs.declared.error.FromHexError.{FromHexError}
 use Rattle.hex.proofs.HexLemmas.{decode_of-encode_lower, decode_of-even, decode_of-odd, decode_pairs-ok}
@@ -75,6 +78,23 @@ hex_as_decoded s =
       | inr even ↦ pairs_same 0 s ∙ sym (ap result_ok (decode_of-even s (omega arith)))
     ]
 
+-- a digit by its class is one by its value
+digit_class : (c : ℕ) → is_ascii_hexdigit c ≡ ltb (digit_value c) 16
+digit_class c = grind (arith, nat_tests)
+
+pair_of_others : (p q r : Bool) (f : List ℕ → List ℕ) (o : Option (List ℕ)) → (r ≡ false → o ≡ None) → (p && (q && r)) ≡ false
+    → cond (p && q) (option_map f o) None ≡ None
+pair_of_others true true r f o none h = ap (option_map f) (none h)
+pair_of_others true false r f o none h = refl
+pair_of_others false q r f o none h = refl
+
+-- another character among digits writes no bytes
+pub read_none : (s : List ℕ) → list_all is_ascii_hexdigit s ≡ false → hex_bytes s ≡ None
+read_none [] h = cc h
+read_none (c ∷ []) h = refl
+read_none (c ∷ d ∷ s) h =
+    pair_of_others (ltb (digit_value c) 16) (ltb (digit_value d) 16) (list_all is_ascii_hexdigit s) (λ bs. (16 * digit_value c + digit_value d) ∷ bs) (hex_bytes s) (read_none s) (rw (digit_class c, digit_class d) at h)
+
 octet_at : (bs : List ℕ) → Octets bs → IsBytes bs
 octet_at [] h i = omega arith
 octet_at (b ∷ bs) h zero = h.0
@@ -85,6 +105,18 @@ hex_reads_back bs small =
     sym (ap hex_bytes (hex_as_encoded bs small))
     ∙ hex_as_decoded (encode_lower bs)
     ∙ ap result_ok (decode_of-encode_lower bs (octet_at bs small))
+
+-- what the library reads is what is meant
+pub read_as : (word bs : List ℕ) → decode_of word ≡ Ok bs → Some bs ≡ hex_bytes word
+read_as word bs read = sym (hex_as_decoded word ∙ ap result_ok read)
+
+-- what the library writes is what is meant, and reads back
+module _ (bs : List ℕ) (r : Result (String Global) AllocError) where
+  pub shown_as : Octets bs → IfOk r (λ s. string_bytes s ≡ encode_lower bs) → IfOk r (λ s. string_bytes s ≡ hex_text bs)
+  shown_as small shown = IfOk-weaker r _ (λ s. string_bytes s ≡ hex_text bs) (λ s e. e ∙ hex_as_encoded bs small) shown
+
+  pub shown_back : Octets bs → IfOk r (λ s. string_bytes s ≡ encode_lower bs) → IfOk r (λ s. hex_bytes (string_bytes s) ≡ Some bs)
+  shown_back small shown = IfOk-weaker r _ (λ s. hex_bytes (string_bytes s) ≡ Some bs) (λ s e. ap hex_bytes (e ∙ hex_as_encoded bs small) ∙ hex_reads_back bs small) shown
 
 pub length-hex_text : (bs : List ℕ) → length (hex_text bs) ≡ 2 * length bs
 length-hex_text [] = refl

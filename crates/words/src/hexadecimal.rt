@@ -1,20 +1,36 @@
 // Bytes as hexadecimal text.
-ghost use Rattle.std.specs.Prelude.{◌≡◌, IfOk, Some, vec_items, string_bytes};
+ghost use Rattle.std.specs.Prelude.{◌≡◌, IfOk, Some, Err, false, vec_items, string_bytes};
+ghost use Rattle.std.specs.Char.{is_ascii_hexdigit};
+ghost use Rattle.std.specs.List.{list_all};
 ghost use Rattle.std.specs.Option.{option_map};
 ghost use Rattle.words.specs.Hex.{hex_text, hex_bytes};
 ghost use Rattle.words.specs.Refusals.{IfRead};
+ghost use Rattle.words.specs.declared.refusal.Refusal.TheVariants.{Malformed};
 
 use crate::refusal::Refusal;
 use std::alloc::{AllocError, Global};
 
-// The bytes that a word writes with two digits each, if it writes bytes.
-pub fn read_hex(heap: Global, word: &str) -> Result<Vec<u8>, Refusal>
-    ensures { IfRead result (λ o. option_map vec_items o ≡ hex_bytes word.now) }
+fn all_digits(word: &[u8]) -> bool
+    ensures { result ≡ list_all is_ascii_hexdigit word.now }
 {
+    word.iter().all(|c| c.is_ascii_hexdigit())
+}
+
+// The bytes that a word writes with two digits each, if it writes bytes.
+#[tactic(auto, using(crate::proofs::Hexes::read_as, crate::proofs::Hexes::read_none))]
+pub fn read_hex(heap: Global, word: &str) -> Result<Vec<u8>, Refusal>
+    ensures value { IfRead result (λ o. option_map vec_items o ≡ hex_bytes word.now) }
+    ensures refusal { list_all is_ascii_hexdigit word.now ≡ false → result ≡ Err Malformed }
+{
+    // Before memory is asked for, so that such a word is malformed however little is left.
+    if !all_digits(word.as_bytes()) {
+        return Err(Refusal::Malformed);
+    }
     Ok(hex::decode(heap, word)?)
 }
 
 // Bytes as lower-case digits, two to a byte.
+#[tactic(auto, using(crate::proofs::Hexes::shown_as, crate::proofs::Hexes::shown_back, values::specs::BigEndian::octets_from_fits))]
 pub fn show_hex(heap: Global, bytes: &[u8]) -> Result<String, AllocError>
     ensures made { IfOk result (λ s. string_bytes s ≡ hex_text bytes.now) }
     ensures reads_back { IfOk result (λ s. hex_bytes (string_bytes s) ≡ Some bytes.now) }
