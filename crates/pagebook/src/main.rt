@@ -21,11 +21,18 @@ use std::io::{BufRead, BufReader};
 use std::process::ExitCode;
 
 // Goes through a scenario, a line at a time, up to the first line that is refused.
-fn run<I: BufRead + Drop>(rt: &HostRuntime, input: I) -> Result<(), Fault> {
+fn run<I: BufRead + Drop>(rt: &HostRuntime, mut input: I) -> Result<(), Fault> {
     let mut session = Session::new();
-    for (number, line) in (1..u64::MAX).zip(input.split(rt.alloc(), b'\n')) {
+    // One buffer for all lines: `split` would ask for memory anew for each.
+    let mut line = Vec::new(rt.alloc());
+    for number in 1..u64::MAX {
+        line.clear();
+        if input.read_until(b'\n', &mut line)? == 0 {
+            break;
+        }
+        line.pop_if(|b| *b == b'\n');
         let answer = session
-            .respond(rt.alloc(), line?.as_slice())
+            .respond(rt.alloc(), line.as_slice())
             .map_err(|refusal| Fault::at(number, refusal))?;
         if let Some(answer) = answer {
             rt.println(answer)?;
