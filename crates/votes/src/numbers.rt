@@ -1,12 +1,13 @@
 // The six numbers of a vote, apart from its value.
 
 // The numbers have the widths of a frame's fields, so that a vote may also be one that no circle takes: its kind too is a number, since a
-// readable frame may hold any. All are zero by default, as in the vote that an unreadable frame stands for.
+// readable frame may hold any. All are zero by default, as in the vote that an unreadable frame stands for. The widest stand first: they lie
+// in memory in this order, and no byte is left between them.
 #[derive(Clone, Copy, Debug, PartialEq, Eq, Default)]
 pub struct Numbers {
-    pub kind: u8,
     pub page: u32,
     pub round: u16,
+    pub kind: u8,
     pub house: u8,
     pub cp: u8,
     pub val: u8,
