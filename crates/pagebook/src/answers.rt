@@ -17,7 +17,7 @@ use words::hexadecimal::show_hex;
 
 // A vote's frame in hexadecimal.
 pub(crate) fn frame_text<V: TextValue>(heap: Global, vote: Vote<V>) -> Result<String, AllocError>
-    ensures { IfOk result (λ s. string_bytes s ≡ frame_answer V.Value.own vote) }
+    ensures { IfOk result (λ s. string_bytes s ≡ frame_answer V.Value vote) }
 {
     let mut frame = vec![in heap; 0; frame_size::<V>()]?;
     // The buffer is as long as a frame, so this can't fail.
@@ -27,7 +27,7 @@ pub(crate) fn frame_text<V: TextValue>(heap: Global, vote: Vote<V>) -> Result<St
 
 // A vote as the answers name it.
 fn vote_words<V: TextValue>(heap: Global, vote: Vote<V>) -> Result<String, AllocError>
-    ensures { IfOk result (λ s. string_bytes s ≡ codes "vote " ++ vote_text V.Value.own V.TextValue.own vote) }
+    ensures { IfOk result (λ s. string_bytes s ≡ codes "vote " ++ vote_text V.Value V.TextValue.own vote) }
 {
     let words = show_vote(heap, vote)?;
     format!(in heap; "vote {words}")
@@ -35,7 +35,7 @@ fn vote_words<V: TextValue>(heap: Global, vote: Vote<V>) -> Result<String, Alloc
 
 // The vote in a frame, or that the frame is unreadable.
 pub(crate) fn read_text<V: TextValue>(heap: Global, bytes: &[u8]) -> Result<String, AllocError>
-    ensures { IfOk result (λ s. string_bytes s ≡ read_answer V.Value.own V.TextValue.own bytes.now) }
+    ensures { IfOk result (λ s. string_bytes s ≡ read_answer V.Value V.TextValue.own bytes.now) }
 {
     let vote = read_frame::<V>(bytes);
     if is_readable::<V>(bytes) {
@@ -73,7 +73,7 @@ pub(crate) fn fetched_text<V: TextValue>(
     heap: Global,
     fetched: Result<Vote<V>, Fault>,
 ) -> Result<String, AllocError>
-    ensures { IfOk result (λ s. string_bytes s ≡ fetched_answer V.Value.own V.TextValue.own fetched) }
+    ensures { IfOk result (λ s. string_bytes s ≡ fetched_answer V.Value V.TextValue.own fetched) }
 {
     match fetched {
         Ok(vote) => vote_words(heap, vote),
@@ -87,7 +87,7 @@ pub(crate) fn votes_text<V: TextValue, P: Post<Value = V>>(
     heap: Global,
     post: &P,
 ) -> Result<String, AllocError>
-    ensures { IfOk result (λ s. string_bytes s ≡ votes_answer V.Value.own V.TextValue.own (P.Post.votes post.now)) }
+    ensures { IfOk result (λ s. string_bytes s ≡ votes_answer V.Value V.TextValue.own (P.Post.votes post.now)) }
 {
     let mut text = String::from_str(heap, "0")?;
     for (place, vote) in Votes::of(post).enumerate() {
@@ -104,7 +104,7 @@ pub(crate) fn look_text<V: TextValue, P: Post<Value = V>>(
     post: &P,
     look: Look,
 ) -> Result<String, AllocError>
-    ensures { IfOk result (λ s. string_bytes s ≡ look_answer V.Value.own V.TextValue.own P.Post.layer (P.Post.votes post.now) look) }
+    ensures { IfOk result (λ s. string_bytes s ≡ look_answer V.Value V.TextValue.own P.Post.layer (P.Post.votes post.now) look) }
 {
     // The looks are closed, so a match names each, and the contract each answer.
     match look {

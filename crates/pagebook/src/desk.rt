@@ -35,7 +35,7 @@ impl<V: TextValue> Desk<V> {
     // Lays memory for a post on a desk that has none.
     fn lay(&mut self, heap: Global, memory: Memory<V>, count: usize) -> Result<String, Refusal>
         requires { (view self.old).held ≡ None }
-        ensures { IfRead result (λ answer. Replied (lay V.Value.own (held_in memory) count (view self.old)) answer (view self.old) (view self.new)) }
+        ensures { IfRead result (λ answer. Replied (lay V.Value (held_in memory) count (view self.old)) answer (view self.old) (view self.new)) }
     {
         let text = check_text(heap, memory.check())?;
         self.memory = Some(memory);
@@ -44,7 +44,7 @@ impl<V: TextValue> Desk<V> {
     }
 
     fn send(&mut self, heap: Global, vote: Vote<V>) -> Result<String, Refusal>
-        ensures { IfRead result (λ answer. Replied (send_reply V.Value.own vote (view self.old)) answer (view self.old) (view self.new)) }
+        ensures { IfRead result (λ answer. Replied (send_reply V.Value vote (view self.old)) answer (view self.old) (view self.new)) }
     {
         let memory = self.memory.as_mut().ok_or(Refusal::Malformed)?;
         self.called = true;
@@ -53,7 +53,7 @@ impl<V: TextValue> Desk<V> {
     }
 
     fn look(&mut self, heap: Global, look: Look) -> Result<String, Refusal>
-        ensures { IfRead result (λ answer. Replied (look_reply V.Value.own V.TextValue.own look (view self.old)) answer (view self.old) (view self.new)) }
+        ensures { IfRead result (λ answer. Replied (look_reply V.Value V.TextValue.own look (view self.old)) answer (view self.old) (view self.new)) }
     {
         let memory = self.memory.as_mut().ok_or(Refusal::Malformed)?;
         self.called = true;
@@ -62,7 +62,7 @@ impl<V: TextValue> Desk<V> {
 
     // `fill` and `poke` differ in one call: a closure for that would need a contract as long as both.
     fn fill(&mut self, heap: Global, place: usize, vote: Vote<V>) -> Result<String, Refusal>
-        ensures { IfRead result (λ answer. Replied (prepare (filled V.Value.own place vote) (view self.old)) answer (view self.old) (view self.new)) }
+        ensures { IfRead result (λ answer. Replied (prepare (filled V.Value place vote) (view self.old)) answer (view self.old) (view self.new)) }
     {
         let memory = self.memory.as_mut().ok_or(Refusal::Malformed)?;
         if self.called {
@@ -85,7 +85,7 @@ impl<V: TextValue> Desk<V> {
 
     // The answer to a command, which is refused where it is not allowed.
     pub(crate) fn carry_out(&mut self, heap: Global, command: Command<V>) -> Result<String, Refusal>
-        ensures { IfRead result (λ answer. Replied (reply V.Value.own V.TextValue.own command (view self.old)) answer (view self.old) (view self.new)) }
+        ensures { IfRead result (λ answer. Replied (reply V.Value V.TextValue.own command (view self.old)) answer (view self.old) (view self.new)) }
     {
         // The commands are closed, so a match names each step, and the contract each command.
         match command {

@@ -50,7 +50,7 @@ fn look_at<V: TextValue, L: Layout<Value = V>>(
     count: usize,
     look: Look,
 ) -> Result<String, AllocError>
-    ensures value { IfOk result (λ s. string_bytes s ≡ look_answer V.Value.own V.TextValue.own L.layer (votes_in L.Layout count memory.old) look) }
+    ensures value { IfOk result (λ s. string_bytes s ≡ look_answer V.Value V.TextValue.own L.layer (votes_in L.Layout count memory.old) look) }
     ensures same { memory.new ≡ memory.old }
 {
     look_text(heap, &MemoryPost::<L::Item, L>::new(memory, count), look)
@@ -59,7 +59,7 @@ fn look_at<V: TextValue, L: Layout<Value = V>>(
 impl<V: TextValue> Memory<V> {
     // Whether the memory can hold a vote.
     pub(crate) fn check(&self) -> Result<(), TooSmall>
-        ensures { result ≡ memory_check (capacity_of V.Value.own (held_in self.now)) }
+        ensures { result ≡ memory_check (capacity_of V.Value (held_in self.now)) }
     {
         match self {
             Memory::Table(table) => TablePost::check(table.as_slice()),
@@ -69,9 +69,9 @@ impl<V: TextValue> Memory<V> {
 
     // Sends a vote to the post with a count, and keeps the count that it has then.
     pub(crate) fn send(&mut self, count: &mut usize, vote: &Vote<V>) -> Result<(), Fault>
-        ensures value { result ≡ sent_to V.Value.own count.old (held_in self.old) }
-        ensures memory { held_in self.new ≡ memory_after V.Value.own vote.now count.old (held_in self.old) }
-        ensures count { count.new ≡ count_after V.Value.own vote.now count.old (held_in self.old) }
+        ensures value { result ≡ sent_to V.Value count.old (held_in self.old) }
+        ensures memory { held_in self.new ≡ memory_after V.Value vote.now count.old (held_in self.old) }
+        ensures count { count.new ≡ count_after V.Value vote.now count.old (held_in self.old) }
     {
         match self {
             Memory::Table(table) => send_to::<Table<V>>(table.as_mut_slice(), count, vote),
@@ -82,7 +82,7 @@ impl<V: TextValue> Memory<V> {
     // Writes a vote at a place below the capacity: a post that starts there sends there.
     #[tactic(auto, using(crate::proofs::Filling::fills))]
     pub(crate) fn fill(&mut self, place: usize, vote: &Vote<V>) -> Result<(), Refusal>
-        ensures { Writes (filled V.Value.own place vote.now (held_in self.old)) result (held_in self.old) (held_in self.new) }
+        ensures { Writes (filled V.Value place vote.now (held_in self.old)) result (held_in self.old) (held_in self.new) }
     {
         let mut count = place;
         self.send(&mut count, vote).map_err(|_| Refusal::Malformed)
@@ -109,7 +109,7 @@ impl<V: TextValue> Memory<V> {
         count: usize,
         look: Look,
     ) -> Result<String, AllocError>
-        ensures value { IfOk result (λ s. string_bytes s ≡ shown V.Value.own V.TextValue.own look count (held_in self.old)) }
+        ensures value { IfOk result (λ s. string_bytes s ≡ shown V.Value V.TextValue.own look count (held_in self.old)) }
         ensures same { held_in self.new ≡ held_in self.old }
     {
         match self {

@@ -50,7 +50,7 @@ pub(crate) fn read_command<V: TextValue>(
     heap: Global,
     words: &[&str],
 ) -> Result<Command<V>, Refusal>
-    ensures { IfRead result (λ o. CommandReads V.Value.own V.TextValue.own (texts words.now) o) }
+    ensures { IfRead result (λ o. CommandReads V.Value V.TextValue.own (texts words.now) o) }
 {
     let [verb, rest @ ..] = words else {
         return Err(Refusal::Malformed);

@@ -54,7 +54,7 @@ fn is_ignored(line: &[u8]) -> bool
 // What a line prints once the kind of value is named: itself, an arrow and its answer.
 #[tactic(auto, using(crate::proofs::Telling::answered))]
 fn answer<V: TextValue>(heap: Global, desk: &mut Desk<V>, line: &str) -> Result<String, Refusal>
-    ensures { IfRead result (λ text. Answers V.Value.own V.TextValue.own line.now (spoken text) (view desk.old) (view desk.new)) }
+    ensures { IfRead result (λ text. Answers V.Value V.TextValue.own line.now (spoken text) (view desk.old) (view desk.new)) }
 {
     let words = words_of(heap, line)?;
     let command = read_command(heap, words.as_slice())?;

@@ -19,7 +19,7 @@ pub struct Frames<V> {
 
 // The bytes of the frame at a place, if there is the place.
 fn frame_at<V: Value>(bytes: &[u8], place: usize) -> Option<&[u8]>
-    ensures { MatchOption result (frame_places V.Value.own bytes.now ≤ place) (λ f. (place < frame_places V.Value.own bytes.now) × (f.now ≡ frame_at V.Value.own place bytes.now)) }
+    ensures { MatchOption result (frame_places V.Value bytes.now ≤ place) (λ f. (place < frame_places V.Value bytes.now) × (f.now ≡ frame_at V.Value place bytes.now)) }
 {
     if place >= Frames::<V>::places(bytes) {
         return None;
@@ -36,13 +36,13 @@ impl<V: Value> Layout for Frames<V> {
 
     ghost layer = { frame_layer };
 
-    ghost votes = { λ bytes. frames_in V.Value.own bytes };
+    ghost votes = { λ bytes. frames_in V.Value bytes };
 
-    ghost places = { λ bytes. frame_places V.Value.own bytes };
+    ghost places = { λ bytes. frame_places V.Value bytes };
 
-    ghost long = { λ bytes. frames_long V.Value.own bytes };
+    ghost long = { λ bytes. frames_long V.Value bytes };
 
-    ghost put = { λ place vote bytes. with_frame V.Value.own place bytes (frame V.Value.own vote) };
+    ghost put = { λ place vote bytes. with_frame V.Value place bytes (frame V.Value vote) };
 
     fn layer() -> Layer
         ensures { result ≡ frame_layer }

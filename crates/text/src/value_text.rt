@@ -10,7 +10,7 @@ use words::refusal::Refusal;
 // The value that a word writes, if it writes one.
 #[tactic(auto, unfolding(crate::specs::Values::ValueReads))]
 pub fn read_value<V: TextValue>(heap: Global, word: &str) -> Result<V, Refusal>
-    ensures { IfRead result (λ o. ValueReads V.Value.own V.TextValue.own word.now o) }
+    ensures { IfRead result (λ o. ValueReads V.Value V.TextValue.own word.now o) }
 {
     if word == "blank" {
         Ok(V::blank())
@@ -21,8 +21,8 @@ pub fn read_value<V: TextValue>(heap: Global, word: &str) -> Result<V, Refusal>
 
 #[tactic(auto, unfolding(crate::specs::Values::ValueReads, crate::specs::Values::value_text))]
 pub fn show_value<V: TextValue>(heap: Global, value: &V) -> Result<String, AllocError>
-    ensures made { IfOk result (λ s. string_bytes s ≡ value_text V.Value.own V.TextValue.own value.now) }
-    ensures reads_back { IfOk result (λ s. ValueReadsBack V.Value.own V.TextValue.own value.now (string_bytes s)) }
+    ensures made { IfOk result (λ s. string_bytes s ≡ value_text V.Value V.TextValue.own value.now) }
+    ensures reads_back { IfOk result (λ s. ValueReadsBack V.Value V.TextValue.own value.now (string_bytes s)) }
 {
     // `same`, since it promises equal bytes, which `value_text` asks for; `==` was tried, and asks for one proof more.
     if value.same(&V::blank()) {

@@ -13,7 +13,7 @@ use words::number::number_in;
 use words::refusal::Refusal;
 
 pub fn show_vote<V: TextValue>(heap: Global, vote: Vote<V>) -> Result<String, AllocError>
-    ensures { IfOk result (λ s. string_bytes s ≡ vote_text V.Value.own V.TextValue.own vote) }
+    ensures { IfOk result (λ s. string_bytes s ≡ vote_text V.Value V.TextValue.own vote) }
 {
     let Numbers {
         kind,
@@ -29,7 +29,7 @@ pub fn show_vote<V: TextValue>(heap: Global, vote: Vote<V>) -> Result<String, Al
 
 // The vote that words write, if they are seven and write one.
 pub fn read_vote<V: TextValue>(heap: Global, words: &[&str]) -> Result<Vote<V>, Refusal>
-    ensures { IfRead result (λ o. VoteReads V.Value.own V.TextValue.own (texts words.now) o) }
+    ensures { IfRead result (λ o. VoteReads V.Value V.TextValue.own (texts words.now) o) }
 {
     let [kind, page, round, house, cp, val, value] = words else {
         return Err(Refusal::Malformed);

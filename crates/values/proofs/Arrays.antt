@@ -1,6 +1,6 @@
 -- What an array's `map` gives, and the numbers in chunks of eight bytes. Assumes nothing.
-use Rattle.std.specs.Prelude.{◌≡◌, ℕ, zero, suc, ◌+◌, ◌*◌, ◌<◌, ◌≤◌, List, ◌∷◌, map, length, take, drop, refl}
-use Rattle.std.proofs.Common.{sym, ap, ap₂, ◌∙◌, mod-eq_of_lt, arith}
+use Rattle.std.specs.Prelude.{◌≡◌, ℕ, zero, suc, ◌+◌, ◌*◌, ◌<◌, ◌≤◌, List, [], ◌∷◌, map, length, take, drop, refl}
+use Rattle.std.proofs.Common.{sym, ap, ap₂, ◌∙◌, mod-eq_of_lt, get_or, arith}
 use Rattle.std.proofs.ByRecursion.{All-drop}
 use Rattle.std.specs.Simd.{first_chunks}
 use Rattle.values.specs.Bytes.{Octets, field}
@@ -33,3 +33,12 @@ words_from_chunks (suc n) bs long small =
     let within : 0 + 8 ≤ length bs = omega arith in
     let first = field-take bs within ∙ sym (mod-eq_of_lt (field_lt 8 0 bs within small)) in
     ap₂ ◌∷◌ first (words_from_chunks n (drop 8 bs) (length-drop 8 bs ∙ omega arith) (All-drop (λ b. b < 256) 8 bs small))
+
+-- a list of four is its numbers, one by one
+pub four_of : (ws : List ℕ) → length ws ≡ 4 → (get_or ws 0 0 ∷ get_or ws 1 0 ∷ get_or ws 2 0 ∷ get_or ws 3 0 ∷ []) ≡ ws
+four_of [] long = absurd (omega (arith, long))
+four_of (a ∷ []) long = absurd (omega (arith, long))
+four_of (a ∷ b ∷ []) long = absurd (omega (arith, long))
+four_of (a ∷ b ∷ c ∷ []) long = absurd (omega (arith, long))
+four_of (a ∷ b ∷ c ∷ d ∷ []) long = refl
+four_of (a ∷ b ∷ c ∷ d ∷ e ∷ ws) long = absurd (omega (arith, long))

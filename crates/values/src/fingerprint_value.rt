@@ -2,7 +2,7 @@
 ghost use Rattle.std.specs.Prelude.{◌*◌};
 ghost use Rattle.std.proofs.Common.{ap, ◌∙◌, lit≤};
 ghost use Rattle.values.specs.Fingerprints.{fingerprint_bytes, fingerprint_parsed, fingerprint_blank};
-ghost use Rattle.values.specs.FingerprintsLemmas.{length_words, octets_words, fingerprint_reading, fingerprint_writing, fingerprint_equal};
+ghost use Rattle.values.specs.FingerprintsLemmas.{length_words, octets_words, fingerprint_reading, fingerprint_writing};
 
 use crate::fingerprint::Fingerprint;
 use crate::value::Value;
@@ -24,8 +24,6 @@ impl Value for Fingerprint {
 
     ghost octets = { λ f. octets_words f.words };
 
-    ghost equal = { fingerprint_equal };
-
     ghost reading = { fingerprint_reading };
 
     ghost writing = { fingerprint_writing };
@@ -35,7 +33,8 @@ impl Value for Fingerprint {
     }
 
     fn write(&self, out: &mut [u8]) {
-        let words = self.words.map(u64::to_be_bytes);
+        let [a, b, c, d] = self.words;
+        let words = [a, b, c, d].map(u64::to_be_bytes);
         out.copy_from_slice(words.as_flattened());
     }
 
@@ -45,6 +44,11 @@ impl Value for Fingerprint {
         };
         let words = [*a, *b, *c, *d].map(u64::from_be_bytes);
         Some(Fingerprint { words })
+    }
+
+    #[tactic(auto, using(crate::specs::FingerprintsLemmas::fingerprint_equal))]
+    fn same(&self, other: &Fingerprint) -> bool {
+        self == other
     }
 
     fn blank() -> Fingerprint {

@@ -1,6 +1,6 @@
 // Rates as a kind of value: eight bytes in two's complement, and the smallest number for blank.
 ghost use Rattle.values.specs.Rates.{rate_bytes, rate_parsed, rate_blank};
-ghost use Rattle.values.specs.RatesLemmas.{rate_reading, rate_writing, rate_equal};
+ghost use Rattle.values.specs.RatesLemmas.{rate_reading, rate_writing};
 ghost use Rattle.values.specs.BigEndian.{length-big, octets-big};
 ghost use Rattle.std.proofs.Common.{lit≤, of_z};
 ghost use Rattle.std.specs.Int.{w64};
@@ -25,8 +25,6 @@ impl Value for Rate {
 
     ghost octets = { λ r. octets-big 8 (of_z w64 r.amount) };
 
-    ghost equal = { rate_equal };
-
     ghost reading = { rate_reading };
 
     ghost writing = { rate_writing };
@@ -42,6 +40,11 @@ impl Value for Rate {
     fn read(from: &[u8]) -> Option<Rate> {
         let amount = i64::from_be_bytes(<[u8; 8]>::try_from(from).ok()?);
         Some(Rate { amount })
+    }
+
+    #[tactic(auto, using(crate::specs::RatesLemmas::rate_equal))]
+    fn same(&self, other: &Rate) -> bool {
+        self == other
     }
 
     fn blank() -> Rate {

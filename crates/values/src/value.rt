@@ -3,7 +3,7 @@ ghost use Rattle.std.specs.Prelude.{◌≡◌, ℕ, ◌≤◌, List, length, if�
 ghost use Rattle.std.specs.Str.{bytes_eq};
 ghost use Rattle.values.specs.Bytes.{Octets};
 
-pub trait Value: Copy + Eq {
+pub trait Value: Copy {
     // How many bytes a value of this kind has.
     ghost width: { ℕ };
 
@@ -28,11 +28,9 @@ pub trait Value: Copy + Eq {
     fn read(from: &[u8]) -> Option<Self>
         ensures { result ≡ (if nat_eq (length from.now) width then Some (parsed from.now) else None) };
 
+    // By bytes, and no `==` is asked: a kind may have none, or one that compares otherwise.
     fn same(&self, other: &Self) -> bool
-        ensures { result ≡ bytes_eq (bytes self.now) (bytes other.now) }
-    {
-        self == other
-    }
+        ensures { result ≡ bytes_eq (bytes self.now) (bytes other.now) };
 
     fn blank() -> Self
         ensures { result ≡ blank };
@@ -44,9 +42,6 @@ pub trait Value: Copy + Eq {
     ghost long: { (v : Self) → length (bytes v) ≡ width };
 
     ghost octets: { (v : Self) → Octets (bytes v) };
-
-    // `==` compares what the values mean.
-    ghost equal: { (a b : Self) → Self.eq a b ≡ bytes_eq (bytes a) (bytes b) };
 
     // Reading undoes writing.
     ghost reading: { (v : Self) → parsed (bytes v) ≡ v };

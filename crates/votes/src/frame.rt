@@ -17,14 +17,14 @@ pub const HEADER: usize = 13;
 
 // How many bytes a frame has.
 pub fn frame_size<V: Value>() -> usize
-    ensures { result ≡ frame_size V.Value.own }
+    ensures { result ≡ frame_size V.Value }
 {
     HEADER + V::width()
 }
 
 // What a frame's length says: how many bytes come after it.
 fn frame_length<V: Value>() -> u16
-    ensures { result ≡ frame_length V.Value.own }
+    ensures { result ≡ frame_length V.Value }
 {
     // No kind of value is wider than 32 bytes (the law `most`), so the cast keeps the number; try_from would have an
     // error that cannot come.
@@ -47,7 +47,7 @@ impl Error for WrongSize {}
 
 // The numbers in a frame's header, and the bytes of its value, if size, length and version are right.
 fn split<V: Value>(bytes: &[u8]) -> Option<(Numbers, &[u8])>
-    ensures { MatchOption result (readable V.Value.own bytes.now ≡ false) (λ p. (readable V.Value.own bytes.now ≡ true) × (p.0 ≡ numbers_of (fields V.Value.own bytes.now)) × (p.1.now ≡ drop 13 bytes.now)) }
+    ensures { MatchOption result (readable V.Value bytes.now ≡ false) (λ p. (readable V.Value bytes.now ≡ true) × (p.0 ≡ numbers_of (fields V.Value bytes.now)) × (p.1.now ≡ drop 13 bytes.now)) }
 {
     let (header, value) = bytes.split_first_chunk::<HEADER>()?;
     let [
@@ -82,7 +82,7 @@ fn split<V: Value>(bytes: &[u8]) -> Option<(Numbers, &[u8])>
 
 // The vote in a frame, if the frame is readable.
 fn parse<V: Value>(bytes: &[u8]) -> Option<Vote<V>>
-    ensures { result ≡ (if readable V.Value.own bytes.now then Some (fields V.Value.own bytes.now) else None) }
+    ensures { result ≡ (if readable V.Value bytes.now then Some (fields V.Value bytes.now) else None) }
 {
     let (numbers, value) = split::<V>(bytes)?;
     let value = V::read(value)?;
@@ -91,7 +91,7 @@ fn parse<V: Value>(bytes: &[u8]) -> Option<Vote<V>>
 
 // What stands before the value.
 fn header<V: Value>(vote: Vote<V>) -> [u8; HEADER]
-    ensures { result ≡ header_of V.Value.own vote }
+    ensures { result ≡ header_of V.Value vote }
 {
     let [l1, l0] = frame_length::<V>().to_be_bytes();
     let n = vote.numbers;
@@ -104,9 +104,9 @@ fn header<V: Value>(vote: Vote<V>) -> [u8; HEADER]
 
 // Writes the vote's frame over the whole of `out`, or leaves it as it was where that is not as long as a frame.
 pub fn write_frame<V: Value>(vote: Vote<V>, out: &mut [u8]) -> Result<(), WrongSize>
-    ensures test { is_ok result ≡ (length out.old == frame_size V.Value.own) }
-    ensures after { out.new ≡ (if is_ok result then frame V.Value.own vote else out.old) }
-    ensures reads_back { is_ok result ≡ true → ReadsBack V.Value.own vote out.new }
+    ensures test { is_ok result ≡ (length out.old == frame_size V.Value) }
+    ensures after { out.new ≡ (if is_ok result then frame V.Value vote else out.old) }
+    ensures reads_back { is_ok result ≡ true → ReadsBack V.Value vote out.new }
 {
     if out.len() != frame_size::<V>() {
         return Err(WrongSize);
@@ -117,16 +117,16 @@ pub fn write_frame<V: Value>(vote: Vote<V>, out: &mut [u8]) -> Result<(), WrongS
 }
 
 pub fn is_readable<V: Value>(bytes: &[u8]) -> bool
-    ensures { result ≡ readable V.Value.own bytes.now }
+    ensures { result ≡ readable V.Value bytes.now }
 {
     parse::<V>(bytes).is_some()
 }
 
 // The vote that a frame stands for.
 pub fn read_frame<V: Value>(bytes: &[u8]) -> Vote<V>
-    ensures value { result ≡ stands_for V.Value.own bytes.now }
-    ensures writes_back { WritesBack V.Value.own bytes.now result }
-    ensures unreadable { UnreadableIsEmpty V.Value.own bytes.now result }
+    ensures value { result ≡ stands_for V.Value bytes.now }
+    ensures writes_back { WritesBack V.Value bytes.now result }
+    ensures unreadable { UnreadableIsEmpty V.Value bytes.now result }
 {
     // A closure, since the borrow checker does not take the path `Vote::empty` here yet.
     parse(bytes).unwrap_or_else(|| Vote::empty())
@@ -135,7 +135,7 @@ pub fn read_frame<V: Value>(bytes: &[u8]) -> Vote<V>
 // The numbers of the vote that a frame stands for, from its header alone.
 #[tactic(auto, unfolding(crate::specs::Frames::stands_for))]
 pub fn read_numbers<V: Value>(bytes: &[u8]) -> Numbers
-    ensures { result ≡ numbers_of (stands_for V.Value.own bytes.now) }
+    ensures { result ≡ numbers_of (stands_for V.Value bytes.now) }
 {
     split::<V>(bytes)
         .map(|(numbers, _)| numbers)

@@ -21,7 +21,7 @@ pub struct Vote<V> {
 impl<V: Value> Vote<V> {
     // What an unreadable frame stands for.
     pub fn empty() -> Vote<V>
-        ensures { result ≡ empty_vote V.Value.own }
+        ensures { result ≡ empty_vote V.Value }
     {
         Vote {
             numbers: Numbers::default(),
@@ -43,16 +43,16 @@ impl<V: Value> Vote<V> {
     }
 
     fn fits(&self, shape: Shape) -> bool
-        ensures { result ≡ fits_shape V.Value.own shape self.now }
+        ensures { result ≡ fits_shape V.Value shape self.now }
     {
-        let blank = self.value == V::blank();
+        let blank = self.value.same(&V::blank());
         let n = self.numbers;
         n.cp <= shape.cp && shape.low <= n.val && n.val <= shape.high && blank != shape.valued
     }
 
     // Whether a circle of this many houses has no such vote.
     pub fn is_void(&self, houses: u8) -> bool
-        ensures { result ≡ void V.Value.own houses self.now }
+        ensures { result ≡ void V.Value houses self.now }
     {
         match Kind::try_from(self.numbers.kind) {
             Ok(kind) => !(self.in_range(houses) && self.fits(kind.shape())),
