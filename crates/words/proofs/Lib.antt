@@ -2,3 +2,4 @@
 pub mod Refusals
 pub mod Hexes
 pub mod Cutting
+pub mod Chunks
