@@ -24,7 +24,7 @@ pub fn show_value<V: TextValue>(heap: Global, value: &V) -> Result<String, Alloc
     ensures made { IfOk result (λ s. string_bytes s ≡ value_text V.Value V.TextValue.own value.now) }
     ensures reads_back { IfOk result (λ s. ValueReadsBack V.Value V.TextValue.own value.now (string_bytes s)) }
 {
-    // `same`, since it promises equal bytes, which `value_text` asks for; `==` was tried, and asks for one proof more.
+    // `same`, since a kind of value need not have `==`.
     if value.same(&V::blank()) {
         String::from_str(heap, "blank")
     } else {

@@ -33,6 +33,7 @@ impl Value for Fingerprint {
     }
 
     fn write(&self, out: &mut [u8]) {
+        // By name, so that their order stands here.
         let [a, b, c, d] = self.words;
         let words = [a, b, c, d].map(u64::to_be_bytes);
         out.copy_from_slice(words.as_flattened());

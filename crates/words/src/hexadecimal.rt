@@ -47,8 +47,9 @@ pub fn read_hex(heap: Global, word: &str) -> Result<Vec<u8>, Refusal>
     ensures value { IfRead result (λ o. option_map vec_items o ≡ hex_bytes word.now) }
     ensures refusal { list_all is_ascii_hexdigit word.now ≡ false → result ≡ Err Malformed }
 {
-    // Before memory is asked for, so that such a word is malformed however little is left.
-    if !all_digits(word.as_bytes()) {
+    // A word with another character is malformed however little memory is left, so the characters come first. `decode` refuses an odd
+    // number of them before it looks at any, and so does this.
+    if word.len() % 2 == 0 && !all_digits(word.as_bytes()) {
         return Err(Refusal::Malformed);
     }
     Ok(hex::decode(heap, word)?)
